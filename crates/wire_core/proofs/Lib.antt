@@ -1,0 +1,4 @@
+pub mod Checks
+pub mod Division
+pub mod Registers
+pub mod Writing

@@ -1,0 +1,21 @@
+-- All that a board holds, tells and counts, as one record.
+use Rattle.std.specs.Prelude.{ℕ}
+use Rattle.board_core.specs.declared.platform.Platform.{Platform}
+use Rattle.board_core.specs.Flash.{FlashState}
+use Rattle.board_core.specs.Tpm.{TpmState}
+use Rattle.board_core.specs.Hook.{HookState}
+use Rattle.board_core.specs.Fuse.{fuse_state}
+use Rattle.board_core.specs.FuseTpm.{fuse_tpm_state}
+
+pub record World : Type 0 where
+  -- the flash, as its fuse shows it
+  pub flash : FlashState
+  -- the TPM, as its fuse shows it
+  pub tpm : TpmState
+  pub hook : HookState
+  -- the place of the flash map, in bytes
+  pub map_at : ℕ
+
+-- the world of a platform, from what each kind of device holds
+abbrev pub world : {F T H : Type 0} → (F → FlashState) → (T → TpmState) → (H → HookState) → Platform F T H → World
+world flash tpm hook p = record { flash = fuse_state flash p.flash; tpm = fuse_tpm_state tpm p.tpm; hook = hook p.hook; map_at = p.map_at }

@@ -1,0 +1,3 @@
+pub mod Field
+pub mod Nv
+pub use Rattle.wire_core.specs.Crc8

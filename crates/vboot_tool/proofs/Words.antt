@@ -1,0 +1,19 @@
+-- A list of one word that is a given text.
+use Rattle.std.proofs.Common.{◌≡◌, ℕ, suc, ◌<◌, ◌≤◌, Bool, true, List, [], ◌∷◌, length, get_or, map, refl, sym, ap, ◌∙◌, arith}
+use Rattle.std.specs.Prelude.{IsTrue}
+use Rattle.std.specs.Str.{bytes_eq}
+use Rattle.std.proofs.lemmas.Slice.Eq.{bytes_eq-Decides}
+
+head_of_list : List (List ℕ) → List ℕ
+head_of_list xs = get_or xs 0 []
+
+pub one_word : {X : Type 0} (text_of : X → List ℕ) (words : List X) (word : X) (text : List ℕ) (same : Bool) → 1 ≤ length words → length words < 2 → word ≡ get_or words 0 word
+    → same ≡ bytes_eq (text_of word) text → (IsTrue same → map text_of words ≡ text ∷ []) × (map text_of words ≡ text ∷ [] → IsTrue same)
+unfolding head_of_list
+one_word text_of [] word text same some few is_word test = absurd (omega arith)
+one_word text_of (x ∷ []) word text same some few is_word test =
+    let decides = bytes_eq-Decides (text_of word) text in (
+      λ yes. ap (λ (w : List ℕ). w ∷ []) (ap text_of (sym is_word) ∙ decides.0 (sym test ∙ yes)),
+      λ is_text. test ∙ decides.1 (ap text_of is_word ∙ ap head_of_list is_text),
+    )
+one_word text_of (x ∷ y ∷ rest) word text same some few is_word test = absurd (omega arith)

@@ -1,0 +1,5 @@
+pub mod Page
+pub mod Store
+pub mod Answer
+pub mod Boot
+pub mod Run

@@ -1,3 +1,5 @@
 pub mod Field
 pub mod Nv
+pub mod Space
 pub use Rattle.wire_core.specs.Crc8
+pub use Rattle.wire_core.specs.Fields

@@ -1,8 +1,17 @@
-//! The records that a machine keeps between two boots: the nvdata record.
+//! The records that a machine keeps between two boots: the nvdata record, and the firmware and the kernel space of the TPM.
 #![tactic(auto)]
 
 mod field;
+mod fw_space;
+mod kernel_space;
 mod nv;
+mod space;
 
 pub use field::{NvField, fits};
+pub use fw_space::FwSpace;
+pub use kernel_space::KernelSpace;
 pub use nv::Nv;
+pub use space::SpaceFault;
+
+#[cfg(test)]
+mod tests;

@@ -1,0 +1,133 @@
+-- The two spaces of the TPM: the firmware space of 10 bytes and the kernel space of 13 bytes.
+-- Source: vboot_reference, firmware/2lib/include/2secdata_struct.h (the layouts), firmware/2lib/2secdata_firmware.c and
+-- firmware/2lib/2secdata_kernel.c (the checks). Numbers are little-endian, and the last byte is the CRC-8 of the others.
+-- Of the kernel space this project reads the form before version 0x10. The order and the numbers of the faults are this
+-- project's own.
+use Rattle.std.specs.Prelude.{◌≡◌, ℕ, Bool, List, [], ◌∷◌, length, take, slice_index, slice_set, ◌==◌, ◌||◌, nat_lt, not, if◌then◌else◌, Option, Some, None, Result, Ok, Err}
+use Rattle.wire_core.specs.Crc8.{crc8_of}
+use Rattle.wire_core.specs.Fields.{number_at, with_number}
+use Rattle.record_core.specs.declared.space.SpaceFault.{SpaceFault}
+use Rattle.record_core.specs.declared.space.SpaceFault.TheVariants as fault
+
+-- ---- faults
+
+-- the line of a fault in the tables below
+abbrev pub fault_number : SpaceFault → ℕ
+fault_number fault.Size = 1
+fault_number fault.Crc = 2
+fault_number fault.Version = 3
+fault_number fault.Uid = 4
+
+-- the fault of the first line whose test holds
+abbrev pub first_fault : List (Bool × SpaceFault) → Option SpaceFault
+first_fault [] = None
+first_fault (line ∷ lines) = if line.0 then Some line.1 else first_fault lines
+
+-- the bytes that have this fault, or none
+abbrev pub good_bytes : Option SpaceFault → List ℕ → Result (List ℕ) SpaceFault
+good_bytes None bytes = Ok bytes
+good_bytes (Some fault) bytes = Err fault
+
+-- a number that counts where there is no fault alone
+abbrev pub number_of_good : Option SpaceFault → ℕ → Option ℕ
+number_of_good None number = Some number
+number_of_good (Some fault) number = None
+
+-- the byte at this place is not the CRC-8 of the bytes before it
+abbrev pub has_wrong_crc : ℕ → List ℕ → Bool
+has_wrong_crc at bytes = not (slice_index bytes at == crc8_of (take at bytes))
+
+-- the bytes with the CRC-8 of those before this place in it
+abbrev pub with_crc : ℕ → List ℕ → List ℕ
+with_crc at bytes = slice_set bytes at (crc8_of (take at bytes))
+
+-- ---- the firmware space: version of the structure, flags, versions (four bytes), three reserved bytes, CRC
+
+abbrev pub firmware_size : ℕ
+firmware_size = 10
+
+abbrev pub firmware_flags_at : ℕ
+firmware_flags_at = 1
+
+abbrev pub firmware_versions_at : ℕ
+firmware_versions_at = 2
+
+abbrev pub firmware_crc_at : ℕ
+firmware_crc_at = 9
+
+abbrev pub firmware_lines : List ℕ → List (Bool × SpaceFault)
+firmware_lines bytes =
+    (not (length bytes == firmware_size), fault.Size)
+    ∷ (has_wrong_crc firmware_crc_at bytes, fault.Crc)
+    ∷ (nat_lt (slice_index bytes 0) 2, fault.Version)
+    ∷ []
+
+abbrev pub firmware_fault : List ℕ → Option SpaceFault
+firmware_fault bytes = first_fault (firmware_lines bytes)
+
+abbrev pub IsGoodFirmware : List ℕ → Type 0
+IsGoodFirmware bytes = firmware_fault bytes ≡ None
+
+-- 0x01: the last boot was a developer's; 0x02: developer mode
+abbrev pub firmware_flags : List ℕ → ℕ
+firmware_flags bytes = slice_index bytes firmware_flags_at
+
+-- the key's version in the upper half, the firmware's in the lower
+abbrev pub firmware_versions : List ℕ → ℕ
+firmware_versions bytes = number_at 4 bytes firmware_versions_at
+
+-- other flags: all bytes stay but the flags and the CRC
+abbrev pub with_firmware_flags : List ℕ → ℕ → List ℕ
+with_firmware_flags bytes flags = with_crc firmware_crc_at (slice_set bytes firmware_flags_at flags)
+
+-- other versions: all bytes stay but the versions and the CRC
+abbrev pub with_firmware_versions : List ℕ → ℕ → List ℕ
+with_firmware_versions bytes versions = with_crc firmware_crc_at (with_number 4 bytes firmware_versions_at versions)
+
+-- the versions that a rollback of the firmware is measured against, none where the space has a fault
+abbrev pub stored_firmware_version : List ℕ → Option ℕ
+stored_firmware_version bytes = number_of_good (firmware_fault bytes) (firmware_versions bytes)
+
+-- ---- the kernel space: version of the structure, uid (four bytes), versions (four bytes), three reserved bytes, CRC
+
+abbrev pub kernel_size : ℕ
+kernel_size = 13
+
+abbrev pub kernel_uid_at : ℕ
+kernel_uid_at = 1
+
+abbrev pub kernel_versions_at : ℕ
+kernel_versions_at = 5
+
+abbrev pub kernel_crc_at : ℕ
+kernel_crc_at = 12
+
+-- `LWRG` in the order of the bytes
+abbrev pub kernel_uid : ℕ
+kernel_uid = 0x4752574c
+
+abbrev pub kernel_lines : List ℕ → List (Bool × SpaceFault)
+kernel_lines bytes =
+    (not (length bytes == kernel_size), fault.Size)
+    ∷ (has_wrong_crc kernel_crc_at bytes, fault.Crc)
+    ∷ (nat_lt (slice_index bytes 0) 0x02 || nat_lt 0x0f (slice_index bytes 0), fault.Version)
+    ∷ (not (number_at 4 bytes kernel_uid_at == kernel_uid), fault.Uid)
+    ∷ []
+
+abbrev pub kernel_fault : List ℕ → Option SpaceFault
+kernel_fault bytes = first_fault (kernel_lines bytes)
+
+abbrev pub IsGoodKernel : List ℕ → Type 0
+IsGoodKernel bytes = kernel_fault bytes ≡ None
+
+-- the key's version in the upper half, the kernel's in the lower
+abbrev pub kernel_versions : List ℕ → ℕ
+kernel_versions bytes = number_at 4 bytes kernel_versions_at
+
+-- other versions: all bytes stay but the versions and the CRC
+abbrev pub with_kernel_versions : List ℕ → ℕ → List ℕ
+with_kernel_versions bytes versions = with_crc kernel_crc_at (with_number 4 bytes kernel_versions_at versions)
+
+-- the versions that a rollback of the kernel is measured against, none where the space has a fault
+abbrev pub stored_kernel_version : List ℕ → Option ℕ
+stored_kernel_version bytes = number_of_good (kernel_fault bytes) (kernel_versions bytes)

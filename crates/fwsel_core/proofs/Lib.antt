@@ -1,1 +1,2 @@
 pub mod FieldsAfter
+pub mod FlagBits

@@ -1,8 +1,17 @@
-//! The decisions about firmware slots that a boot takes from its nvdata record.
+//! The decisions about modes and firmware slots that a boot takes from its records.
 #![tactic(auto)]
 
+mod boot_mode;
+mod decision;
+mod flags;
 mod selection;
 mod slot;
 
+pub use boot_mode::{Mode, ModeFacts};
+pub use decision::{is_developer_on, mode};
+pub use flags::boot_flags;
 pub use selection::{Selection, select};
 pub use slot::Slot;
+
+#[cfg(test)]
+mod tests;

@@ -1,8 +1,9 @@
+pub mod Decimal
 pub mod Ranges
 pub mod Cells
 pub mod Stored
 pub mod Saved
 pub mod Standing
-pub mod Booting
 pub mod Words
+pub mod Booting
 pub mod Ending

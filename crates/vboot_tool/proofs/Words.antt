@@ -1,4 +1,4 @@
--- A list of one word that is a given text.
+-- A list of one word, or of two, that are given texts.
 use Rattle.std.proofs.Common.{◌≡◌, ℕ, suc, ◌<◌, ◌≤◌, Bool, true, List, [], ◌∷◌, length, get_or, map, refl, sym, ap, ◌∙◌, arith}
 use Rattle.std.specs.Prelude.{IsTrue}
 use Rattle.std.specs.Str.{bytes_eq}
@@ -17,3 +17,21 @@ one_word text_of (x ∷ []) word text same some few is_word test =
       λ is_text. test ∙ decides.1 (ap text_of is_word ∙ ap head_of_list is_text),
     )
 one_word text_of (x ∷ y ∷ rest) word text same some few is_word test = absurd (omega arith)
+
+second_of_list : List (List ℕ) → List ℕ
+second_of_list xs = get_or xs 1 []
+
+pub two_words : {X : Type 0} (text_of : X → List ℕ) (words : List X) (first second : X) (text text' : List ℕ) (same : Bool) → 2 ≤ length words → length words < 3
+    → first ≡ get_or words 0 first → second ≡ get_or words 1 second → bytes_eq (text_of first) text ≡ true → same ≡ bytes_eq (text_of second) text'
+    → (IsTrue same → map text_of words ≡ text ∷ text' ∷ []) × (map text_of words ≡ text ∷ text' ∷ [] → IsTrue same)
+unfolding second_of_list
+two_words text_of [] first second text text' same some few is_first is_second test test' = absurd (omega arith)
+two_words text_of (x ∷ []) first second text text' same some few is_first is_second test test' = absurd (omega arith)
+two_words text_of (x ∷ y ∷ []) first second text text' same some few is_first is_second test test' =
+    let decides = bytes_eq-Decides (text_of first) text in
+    let decides' = bytes_eq-Decides (text_of second) text' in
+    let head : text_of x ≡ text = ap text_of (sym is_first) ∙ decides.0 test in (
+      λ yes. ap (λ (w : List ℕ). w ∷ text_of y ∷ []) head ∙ ap (λ (w : List ℕ). text ∷ w ∷ []) (ap text_of (sym is_second) ∙ decides'.0 (sym test' ∙ yes)),
+      λ is_text. test' ∙ decides'.1 (ap text_of is_second ∙ ap second_of_list is_text),
+    )
+two_words text_of (x ∷ y ∷ z ∷ rest) first second text text' same some few is_first is_second test test' = absurd (omega arith)

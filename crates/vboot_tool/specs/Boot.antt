@@ -1,86 +1,162 @@
--- One boot over a page of nvdata: the slot that it selects, and the page that it leaves.
-use Rattle.std.specs.Prelude.{◌≡◌, ℕ, ◌≤◌, Bool, true, false, IsTrue, List, Option, Some, None, if◌then◌else◌}
-use Rattle.std.specs.Str.{bytes_eq}
-use Rattle.record_core.specs.declared.field.NvField.TheVariants as field
-use Rattle.record_core.specs.Nv.{with_field}
-use Rattle.fwsel_core.specs.declared.slot.Slot.{Slot}
-use Rattle.fwsel_core.specs.Selection.{selected_slot, selected_record}
-use Rattle.board_core.specs.Counters.{MadeChanges}
-use Rattle.board_core.specs.Flash.{FlashState}
+-- One boot over a board: what its answer says of the plan, and what it leaves.
+use Rattle.std.specs.Prelude.{◌≡◌, ◌⊎◌, ℕ, ◌+◌, ◌≤◌, nat_lt, Bool, true, false, IsTrue, List, Option, Some, None, IsSome, if◌then◌else◌, ◌==◌}
+use Rattle.record_core.specs.Space.{stored_firmware_version}
+use Rattle.board_core.specs.declared.device.Device.{Device}
+use Rattle.board_core.specs.declared.device.Device.TheVariants as device
+use Rattle.board_core.specs.declared.device.Fault.{Fault}
+use Rattle.board_core.specs.Counters.{MadeChanges, Rose}
+use Rattle.board_core.specs.Fault.{same_device}
+use Rattle.board_core.specs.Tpm.{Spaces, Locks, unlocked}
+use Rattle.board_core.specs.World.{World}
+use Rattle.vboot_tool.specs.declared.answer.Form.TheVariants as form
 use Rattle.vboot_tool.specs.declared.answer.Answer.{Answer}
-use Rattle.vboot_tool.specs.declared.answer.Answer.TheVariants.{Selected, Usage, NotBuiltFlash, NvFull, FlashFault}
-use Rattle.vboot_tool.specs.Page.{page_generation, Counts, standing_record, HasStoredRecord, stored_record, next_cell, appended}
-use Rattle.vboot_tool.specs.Store.{changing_calls, KeepsWritten}
+use Rattle.vboot_tool.specs.declared.answer.Answer.TheVariants as answers
+use Rattle.vboot_tool.specs.declared.plan.Outcome.TheVariants as outcome
+use Rattle.vboot_tool.specs.declared.plan.Plan.{Plan}
+use Rattle.vboot_tool.specs.Page.{page_generation, Counts, standing_record, HasStoredRecord, stored_record, next_cell}
+use Rattle.vboot_tool.specs.Store.{KeepsWritten}
+use Rattle.vboot_tool.specs.Plan.{boot_plan}
+use Rattle.vboot_tool.specs.Steps.{IsBoardDevice, both_locked, change_count, spaces_with, page_with, record_calls}
 
--- the record that a boot leaves: the selected one, and developer mode is no longer to be switched off
-abbrev pub booted_record : List ℕ → List ℕ
-booted_record r = with_field (selected_record r) field.DisableDev 0
+-- ---- what the changes of a plan leave
 
--- this record stands already
-abbrev pub is_standing : Option (List ℕ) → List ℕ → Bool
-is_standing None r = false
-is_standing (Some standing) r = bytes_eq standing r
+-- all changes of a plan
+abbrev pub plan_count : Plan → ℕ
+plan_count plan = change_count plan.firmware + change_count plan.nv
 
--- the record that a boot leaves stands already, so nothing is to be changed
-abbrev pub is_current : List ℕ → Bool
-is_current page = is_standing (standing_record page) (booted_record (stored_record page))
+-- the spaces after so many changes of a plan: that of the firmware space comes first
+abbrev pub spaces_after : Plan → ℕ → Spaces → Spaces
+spaces_after plan done spaces = if done == 0 then spaces else spaces_with plan.firmware spaces
+
+-- the page after so many changes of a plan: that of the record comes last
+abbrev pub page_after : Plan → ℕ → List ℕ → List ℕ
+page_after plan done page = if nat_lt done (plan_count plan) then page else page_with plan.nv page
 
 -- the page takes no further record, and one is to be stored
-pub record IsFull (page : List ℕ) : Type 0 where
+pub record IsFull (plan : Plan) (page : List ℕ) : Type 0 where
   pub counts : Counts page
   pub no_cell : next_cell page ≡ 255
-  pub change : is_current page ≡ false
+  pub change : IsSome plan.nv
 
--- the page after a boot: a record that stands already is not stored again
-abbrev pub booted_page : List ℕ → List ℕ
-booted_page page = if is_current page then page else appended page (booted_record (stored_record page))
+-- All changes of a plan are made.
+pub record IsDone (plan : Plan) (old new : World) : Type 0 where
+  pub spaces : new.tpm.spaces ≡ spaces_with plan.firmware old.tpm.spaces
+  pub page : new.flash.medium.bytes ≡ page_with plan.nv old.flash.medium.bytes
 
--- how many changing calls a boot makes
-abbrev pub booted_calls : List ℕ → ℕ
-booted_calls page = if is_current page then 0 else changing_calls (page_generation page)
+-- Where a record was to be stored, it stands, and there was a place for it.
+pub record Stands (plan : Plan) (old new : World) : Type 0 where
+  pub stands : (r : List ℕ) → plan.nv ≡ Some r → standing_record new.flash.medium.bytes ≡ Some r
+  pub not_full : IsFull plan old.flash.medium.bytes → ⊥
 
--- A boot that selected a slot.
-pub record Booted (slot : Slot) (old new : List ℕ) : Type 0 where
-  -- the slot is that of the record that stood before
-  pub slot_is : slot ≡ selected_slot (stored_record old)
-  -- the page is exactly the new one
-  pub page : new ≡ booted_page old
-  -- a good record stands in it
-  pub stands : HasStoredRecord new
-  -- and is the one that a boot leaves
-  pub stored : stored_record new ≡ booted_record (stored_record old)
-  -- there was a place for it
-  pub not_full : IsFull old → ⊥
+-- The next change is that of the firmware space. It happened though it failed: the fault is one of the TPM, in a change.
+pub record WroteThoughFailed (plan : Plan) (old new : World) (fault : Fault) : Type 0 where
+  pub device : fault.device ≡ device.Tpm
+  pub first : fault.done ≡ 0
+  pub broke : Rose old.tpm.counters.failed_changes new.tpm.counters.failed_changes
+  pub spaces : new.tpm.spaces ≡ spaces_with plan.firmware old.tpm.spaces
 
--- What holds of the page at each answer of a boot.
-abbrev pub BootOutcome : List ℕ → List ℕ → ℕ → Answer → Type 0
-BootOutcome old new calls (Selected slot) = Booted slot old new × (calls ≡ booted_calls old)
-BootOutcome old new calls NvFull = IsFull old × (new ≡ old)
-BootOutcome old new calls FlashFault = Unit {0}
-BootOutcome old new calls Usage = ⊥
-BootOutcome old new calls NotBuiltFlash = ⊥
+-- The next change is that of the record, and it had begun: the fault is one of the flash, in a change.
+pub record StoringBegan (plan : Plan) (old new : World) (fault : Fault) : Type 0 where
+  pub device : fault.device ≡ device.Flash
+  pub last : fault.done ≡ change_count plan.firmware
+  pub broke : Rose old.flash.counters.failed_changes new.flash.counters.failed_changes
 
-abbrev pub is_flash_fault : Answer → Bool
-is_flash_fault FlashFault = true
-is_flash_fault answer = false
+-- What a fault leaves: the changes that are done are whole, and the next one has not happened, or as is said above.
+pub record LeavesDone (plan : Plan) (old new : World) (fault : Fault) : Type 0 where
+  pub at_most : fault.done ≤ plan_count plan
+  pub spaces : (new.tpm.spaces ≡ spaces_after plan fault.done old.tpm.spaces) ⊎ WroteThoughFailed plan old new fault
+  pub page : (new.flash.medium.bytes ≡ page_after plan fault.done old.flash.medium.bytes) ⊎ StoringBegan plan old new fault
 
--- the answers that a boot gives
-abbrev pub IsBootAnswer : Answer → Type 0
-IsBootAnswer Usage = ⊥
-IsBootAnswer NotBuiltFlash = ⊥
-IsBootAnswer answer = Unit {0}
+-- ---- what a boot does
 
--- What a boot does to a flash of one page.
-pub record Boots (old new : FlashState) (answer : Answer) : Type 0 where
-  pub is_boot_answer : IsBootAnswer answer
-  pub size : new.medium.size ≡ old.medium.size
-  pub told : new.medium.told ≡ old.medium.told
-  -- at most three changing calls are made, and a fault is answered only where the flash counted one
-  pub calls : ℕ
-  pub few : calls ≤ 3
-  pub counters : MadeChanges old.counters new.counters calls (is_flash_fault answer)
+-- What the answer of a boot says of its plan.
+abbrev pub BootOutcome : Plan → World → World → Answer → Type 0
+BootOutcome plan old new (answers.Selected developer slot) = (plan.outcome ≡ outcome.Selected developer slot) × IsDone plan old new
+BootOutcome plan old new (answers.Screen reason subcode) = (plan.outcome ≡ outcome.Screen reason subcode) × IsDone plan old new
+BootOutcome plan old new (answers.NotBuilt form.Recovery) = plan.outcome ≡ outcome.NotBuiltRecovery
+BootOutcome plan old new answers.NvFull = IsFull plan old.flash.medium.bytes
+BootOutcome plan old new (answers.Fault fault) = LeavesDone plan old new fault
+BootOutcome plan old new (answers.NotBuilt form.Flash) = ⊥
+BootOutcome plan old new answers.Usage = ⊥
+
+-- the locks after a boot: a boot that goes on locks both spaces, and any other that no fault ended leaves both unlocked
+abbrev pub LocksAfter : Answer → Locks → Type 0
+LocksAfter (answers.Selected developer slot) locks = locks ≡ both_locked
+LocksAfter (answers.Fault fault) locks = Unit {0}
+LocksAfter other locks = locks ≡ unlocked
+
+-- a boot answers a fault of no other device
+abbrev pub FaultOf : Answer → Type 0
+FaultOf (answers.Fault fault) = IsBoardDevice fault.device
+FaultOf other = Unit {0}
+
+-- nothing that lasts was changed
+pub record IsUnchanged (old new : World) : Type 0 where
+  pub flash : new.flash.medium ≡ old.flash.medium
+  pub spaces : new.tpm.spaces ≡ old.tpm.spaces
+
+-- the answers that change nothing, and those that a boot does not give
+abbrev pub ChangesNothing : Answer → World → World → Type 0
+ChangesNothing (answers.NotBuilt form.Recovery) old new = IsUnchanged old new
+ChangesNothing answers.NvFull old new = IsUnchanged old new
+ChangesNothing (answers.NotBuilt form.Flash) old new = ⊥
+ChangesNothing answers.Usage old new = ⊥
+ChangesNothing other old new = Unit {0}
+
+-- whether an answer is a fault of this very device
+abbrev pub is_answer_of : Device → Answer → Bool
+is_answer_of device (answers.Fault fault) = same_device device fault.device
+is_answer_of device other = false
+
+-- the answers that come once all changes are made
+abbrev pub IsWhole : Answer → Type 0
+IsWhole (answers.Selected developer slot) = Unit {0}
+IsWhole (answers.Screen reason subcode) = Unit {0}
+IsWhole other = ⊥
+
+-- What carrying out a plan does to a board whose spaces are unlocked, by its answer.
+pub record CarriesOut (plan : Plan) (generation : Option ℕ) (old new : World) (answer : Answer) : Type 0 where
+  pub flash_calls : ℕ
+  pub flash_few : flash_calls ≤ record_calls plan.nv generation
+  pub flash : MadeChanges old.flash.counters new.flash.counters flash_calls (is_answer_of device.Flash answer)
+  pub tpm_calls : ℕ
+  pub tpm_few : tpm_calls ≤ change_count plan.firmware
+  pub tpm : MadeChanges old.tpm.counters new.tpm.counters tpm_calls (is_answer_of device.Tpm answer)
+  pub flash_size : new.flash.medium.size ≡ old.flash.medium.size
+  pub flash_told : new.flash.medium.told ≡ old.flash.medium.told
+  pub tpm_told : new.tpm.told ≡ old.tpm.told
+  pub hook : new.hook ≡ old.hook
+  pub map_at : new.map_at ≡ old.map_at
+  pub locks : LocksAfter answer new.tpm.locks
+  pub fault : FaultOf answer
+  pub unchanged : ChangesNothing answer old new
+  pub kept : IsTrue old.flash.medium.told → KeepsWritten old.flash.medium.bytes new.flash.medium.bytes
+  pub spaces : IsTrue old.tpm.told → (new.tpm.spaces ≡ old.tpm.spaces) ⊎ (new.tpm.spaces ≡ spaces_with plan.firmware old.tpm.spaces)
+  -- it does not find the page full
+  pub not_nv_full : answer ≡ answers.NvFull → ⊥
+  pub outcome : IsTrue old.flash.medium.told → IsTrue old.tpm.told → BootOutcome plan old new answer
+
+-- What a boot does to its board, by its answer. `switch` is the recovery switch.
+pub record Boots (switch : Bool) (old new : World) (answer : Answer) : Type 0 where
+  -- how many changing calls were made on each device, and a fault is answered only where that very device counted one
+  pub flash_calls : ℕ
+  pub flash_few : flash_calls ≤ 3
+  pub flash : MadeChanges old.flash.counters new.flash.counters flash_calls (is_answer_of device.Flash answer)
+  pub tpm_calls : ℕ
+  pub tpm_few : tpm_calls ≤ 1
+  pub tpm : MadeChanges old.tpm.counters new.tpm.counters tpm_calls (is_answer_of device.Tpm answer)
+  pub flash_size : new.flash.medium.size ≡ old.flash.medium.size
+  pub flash_told : new.flash.medium.told ≡ old.flash.medium.told
+  pub tpm_told : new.tpm.told ≡ old.tpm.told
+  pub hook : new.hook ≡ old.hook
+  pub map_at : new.map_at ≡ old.map_at
+  pub locks : LocksAfter answer new.tpm.locks
+  pub fault : FaultOf answer
+  pub unchanged : ChangesNothing answer old new
   -- at every answer, the head and the cells before the erased tail of a page that counts are as they were
-  pub kept : IsTrue old.medium.told → KeepsWritten old.medium.bytes new.medium.bytes
-  pub outcome : IsTrue old.medium.told → BootOutcome old.medium.bytes new.medium.bytes calls answer
-  -- where the page is full, the flash is not changed
-  pub unchanged : answer ≡ NvFull → new.medium ≡ old.medium
+  pub kept : IsTrue old.flash.medium.told → KeepsWritten old.flash.medium.bytes new.flash.medium.bytes
+  -- at every answer the kernel space is as it was, and the firmware space has its version
+  pub kernel : IsTrue old.tpm.told → new.tpm.spaces.kernel ≡ old.tpm.spaces.kernel
+  pub version : IsTrue old.flash.medium.told → IsTrue old.tpm.told → stored_firmware_version new.tpm.spaces.firmware ≡ stored_firmware_version old.tpm.spaces.firmware
+  pub outcome : IsTrue old.flash.medium.told → IsTrue old.tpm.told → BootOutcome (boot_plan switch old.flash.medium.bytes old.tpm.spaces) old new answer
+  pub stands : IsTrue old.flash.medium.told → IsTrue old.tpm.told → IsWhole answer → Stands (boot_plan switch old.flash.medium.bytes old.tpm.spaces) old new

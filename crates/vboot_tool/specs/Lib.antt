@@ -1,5 +1,7 @@
+pub mod Answer
 pub mod Page
 pub mod Store
-pub mod Answer
+pub mod Plan
+pub mod Steps
 pub mod Boot
 pub mod Run

@@ -1,52 +1,109 @@
 -- What a run of the program does to its devices.
-use Rattle.std.specs.Prelude.{◌≡◌, ℕ, ◌≤◌, IsTrue, List, [], ◌∷◌, ◌++◌, length, take, codes, ◌==◌}
+use Rattle.std.specs.Prelude.{◌≡◌, ℕ, ◌≤◌, Bool, true, false, IsTrue, List, [], ◌∷◌, ◌++◌, length, take, codes, ◌==◌}
+use Rattle.record_core.specs.Space.{stored_firmware_version, stored_kernel_version}
 use Rattle.fwsel_core.specs.declared.slot.Slot.{Slot}
 use Rattle.board_core.specs.Counters.{Rose, CountsFaults}
-use Rattle.board_core.specs.Flash.{FlashState}
 use Rattle.board_core.specs.Streams.{StreamState}
+use Rattle.board_core.specs.Tpm.{unlocked}
+use Rattle.board_core.specs.World.{World}
+use Rattle.vboot_tool.specs.declared.answer.Form.TheVariants as form
 use Rattle.vboot_tool.specs.declared.answer.Answer.{Answer}
-use Rattle.vboot_tool.specs.declared.answer.Answer.TheVariants.{Selected, Usage, NotBuiltFlash, NvFull, FlashFault}
+use Rattle.vboot_tool.specs.declared.answer.Answer.TheVariants as answers
 use Rattle.vboot_tool.specs.declared.answer.Status.{Status}
-use Rattle.vboot_tool.specs.Answer.{line_of, code_of}
-use Rattle.vboot_tool.specs.Boot.{Booted, IsFull, Boots}
+use Rattle.vboot_tool.specs.declared.plan.Outcome.TheVariants as outcome
+use Rattle.vboot_tool.specs.Answer.{text_of, code_of}
+use Rattle.vboot_tool.specs.Plan.{boot_plan}
+use Rattle.vboot_tool.specs.Steps.{both_locked}
+use Rattle.vboot_tool.specs.Boot.{IsFull, IsDone, Stands, IsUnchanged, Boots}
 
--- the only words that are a command
-abbrev pub IsBoot : List (List ℕ) → Type 0
-IsBoot words = words ≡ codes "boot" ∷ []
+-- the words of a boot, with or without the recovery switch
+abbrev pub boot_words : Bool → List (List ℕ)
+boot_words false = codes "boot" ∷ []
+boot_words true = codes "boot" ∷ codes "recovery" ∷ []
 
--- What holds of the flash at each answer. Each refusal has its cause, and no other answer has it.
-abbrev pub Works : List (List ℕ) → FlashState → FlashState → Answer → Type 0
-Works words old new Usage = (IsBoot words → ⊥) × (new ≡ old)
-Works words old new NotBuiltFlash = IsBoot words × (old.medium.size ≡ 4096 → ⊥) × (new ≡ old)
-Works words old new answer = IsBoot words × (old.medium.size ≡ 4096) × Boots old new answer
+-- the words are a command
+abbrev pub IsCommand : List (List ℕ) → Type 0
+IsCommand words = (switch : Bool) × (words ≡ boot_words switch)
 
--- How an answer is printed. Status 9 comes only where the sink counted a fault, and then a front of the line was put.
+-- A boot by these words, on a flash of one page.
+pub record BootsBy (words : List (List ℕ)) (old new : World) (answer : Answer) : Type 0 where
+  pub switch : Bool
+  pub by_words : words ≡ boot_words switch
+  pub size : old.flash.medium.size ≡ 4096
+  pub boots : Boots switch old new answer
+
+-- What holds of the board at each answer. Each refusal has its cause, and no other answer has it.
+abbrev pub Works : List (List ℕ) → World → World → Answer → Type 0
+Works words old new answers.Usage = (IsCommand words → ⊥) × (new ≡ old)
+Works words old new (answers.NotBuilt form.Flash) = IsCommand words × (old.flash.medium.size ≡ 4096 → ⊥) × (new ≡ old)
+Works words old new answer = BootsBy words old new answer
+
+-- How an answer is printed. Status 9 comes only where the sink counted a fault, and then a front of the text was put.
 pub record Prints (answer : Answer) (old new : StreamState) (status : Status) : Type 0 where
   pub faults : CountsFaults old.faults new.faults (status.code == 9)
   pub told : new.told ≡ old.told
   -- the status of the answer, but that of a fault of the sink
   pub code : (status.code ≡ 9 → ⊥) → status.code ≡ code_of answer
-  pub whole : IsTrue old.told → (status.code ≡ 9 → ⊥) → new.bytes ≡ old.bytes ++ line_of answer
-  pub front : IsTrue old.told → status.code ≡ 9 → (count : ℕ) × (count ≤ length (line_of answer)) × (new.bytes ≡ old.bytes ++ take count (line_of answer))
+  pub whole : IsTrue old.told → (status.code ≡ 9 → ⊥) → new.bytes ≡ old.bytes ++ text_of answer
+  pub front : IsTrue old.told → status.code ≡ 9 → (count : ℕ) × (count ≤ length (text_of answer)) × (new.bytes ≡ old.bytes ++ take count (text_of answer))
 
--- A run works a command and prints its answer. What it does to the flash does not depend on whether that could be printed.
-pub record Runs (words : List (List ℕ)) (old new : FlashState) (put put' : StreamState) (status : Status) : Type 0 where
+-- A run works a command and prints its answer. What it does to the board does not depend on whether that could be printed.
+pub record Runs (words : List (List ℕ)) (old new : World) (put put' : StreamState) (status : Status) : Type 0 where
   pub answer : Answer
   pub works : Works words old new answer
   pub prints : Prints answer put put' status
 
--- The same by the exit status.
-pub record Ends (words : List (List ℕ)) (old new : FlashState) (put put' : StreamState) (status : Status) : Type 0 where
-  -- a slot was selected, the record that says so stands, and the slot was printed
-  pub selected : status.code ≡ 0 → IsTrue old.medium.told → IsTrue put.told
-      → (slot : Slot) × Booted slot old.medium.bytes new.medium.bytes × (put'.bytes ≡ put.bytes ++ line_of (Selected slot))
+-- ---- the same by the exit status
+
+-- A boot that goes on: the plan is that of the page and the spaces, its changes are made, both spaces are locked, and the
+-- mode and the slot were put.
+pub record GoesOn (words : List (List ℕ)) (old new : World) (put put' : StreamState) : Type 0 where
+  pub switch : Bool
+  pub by_words : words ≡ boot_words switch
+  pub developer : Bool
+  pub slot : Slot
+  pub outcome : (boot_plan switch old.flash.medium.bytes old.tpm.spaces).outcome ≡ outcome.Selected developer slot
+  pub is_done : IsDone (boot_plan switch old.flash.medium.bytes old.tpm.spaces) old new
+  pub stands : Stands (boot_plan switch old.flash.medium.bytes old.tpm.spaces) old new
+  pub locked : new.tpm.locks ≡ both_locked
+  pub put_bytes : IsTrue put.told → put'.bytes ≡ put.bytes ++ text_of (answers.Selected developer slot)
+
+-- A boot that ends at a screen: its reason and subcode are those of the mode, the request is taken back, and both spaces are
+-- left unlocked.
+pub record EndsAtScreen (words : List (List ℕ)) (old new : World) (put put' : StreamState) : Type 0 where
+  pub switch : Bool
+  pub by_words : words ≡ boot_words switch
+  pub reason : ℕ
+  pub subcode : ℕ
+  pub outcome : (boot_plan switch old.flash.medium.bytes old.tpm.spaces).outcome ≡ outcome.Screen reason subcode
+  pub is_done : IsDone (boot_plan switch old.flash.medium.bytes old.tpm.spaces) old new
+  pub stands : Stands (boot_plan switch old.flash.medium.bytes old.tpm.spaces) old new
+  pub left_unlocked : new.tpm.locks ≡ unlocked
+  pub put_bytes : IsTrue put.told → put'.bytes ≡ put.bytes ++ text_of (answers.Screen reason subcode)
+
+-- A full page: a record is to be stored, and there is no cell for it.
+pub record FindsFull (words : List (List ℕ)) (old new : World) : Type 0 where
+  pub switch : Bool
+  pub by_words : words ≡ boot_words switch
+  pub full : IsTrue old.flash.medium.told → IsTrue old.tpm.told → IsFull (boot_plan switch old.flash.medium.bytes old.tpm.spaces) old.flash.medium.bytes
+  pub unchanged : IsUnchanged old new
+
+pub record Ends (words : List (List ℕ)) (old new : World) (put put' : StreamState) (status : Status) : Type 0 where
+  pub selected : status.code ≡ 0 → IsTrue old.flash.medium.told → IsTrue old.tpm.told → GoesOn words old new put put'
   -- the words are no command
-  pub usage : status.code ≡ 1 → (IsBoot words → ⊥) × (new ≡ old)
-  pub flash_fault : status.code ≡ 5 → Rose old.counters.faults new.counters.faults
+  pub usage : status.code ≡ 1 → (IsCommand words → ⊥) × (new ≡ old)
+  pub screen : status.code ≡ 3 → IsTrue old.flash.medium.told → IsTrue old.tpm.told → EndsAtScreen words old new put put'
+  pub flash_fault : status.code ≡ 5 → Rose old.flash.counters.faults new.flash.counters.faults
+  pub tpm_fault : status.code ≡ 6 → Rose old.tpm.counters.faults new.tpm.counters.faults
   pub sink_fault : status.code ≡ 9 → Rose put.faults put'.faults
-  pub full : status.code ≡ 18 → IsTrue old.medium.told → IsFull old.medium.bytes × (new.medium ≡ old.medium)
-  pub other_size : status.code ≡ 19 → (old.medium.size ≡ 4096 → ⊥) × (new ≡ old)
-  -- and the other way: where no device failed, each refusal comes where it has its cause
-  pub on_usage : (IsBoot words → ⊥) → (status.code ≡ 9 → ⊥) → status.code ≡ 1
-  pub on_other_size : IsBoot words → (old.medium.size ≡ 4096 → ⊥) → (status.code ≡ 9 → ⊥) → status.code ≡ 19
-  pub on_full : IsBoot words → old.medium.size ≡ 4096 → IsTrue old.medium.told → IsFull old.medium.bytes → (status.code ≡ 9 → ⊥) → (status.code ≡ 5 → ⊥) → status.code ≡ 18
+  pub full : status.code ≡ 18 → FindsFull words old new
+  -- what is not built yet changes nothing
+  pub not_built : status.code ≡ 19 → IsUnchanged old new
+  -- no other device fails
+  pub other_fault : (status.code ≡ 7 → ⊥) × (status.code ≡ 8 → ⊥)
+  -- and the other way: where the sink did not fail
+  pub on_usage : (IsCommand words → ⊥) → (status.code ≡ 9 → ⊥) → status.code ≡ 1
+  pub on_other_size : IsCommand words → (old.flash.medium.size ≡ 4096 → ⊥) → (status.code ≡ 9 → ⊥) → status.code ≡ 19
+  -- at every status the kernel space is as it was, and the firmware space keeps its version
+  pub kernel : IsTrue old.tpm.told → stored_kernel_version new.tpm.spaces.kernel ≡ stored_kernel_version old.tpm.spaces.kernel
+  pub version : IsTrue old.flash.medium.told → IsTrue old.tpm.told → stored_firmware_version new.tpm.spaces.firmware ≡ stored_firmware_version old.tpm.spaces.firmware

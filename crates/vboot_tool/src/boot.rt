@@ -1,45 +1,60 @@
-// One boot over a page of nvdata: the slot is selected, and the record that says so is stored.
-ghost use Rattle.std.specs.Prelude.{◌≡◌};
+// One boot over a board: what is found is planned, the plan is made true, and the spaces are locked.
+ghost use Rattle.std.specs.Prelude.{◌≡◌, ◌<◌, ◌↔◌, IsTrue, IsSome};
 ghost use Rattle.board_core.specs.Flash.{FlashState};
-ghost use Rattle.record_core.specs.Nv.{IsGoodRecord};
-ghost use Rattle.fwsel_core.specs.Selection.{selected_slot};
-ghost use Rattle.vboot_tool.specs.Boot.{Boots, booted_record, is_standing};
+ghost use Rattle.board_core.specs.Tpm.{TpmState, unlocked};
+ghost use Rattle.board_core.specs.World.{world};
+ghost use Rattle.vboot_tool.specs.Store.{IsStateOf};
+ghost use Rattle.vboot_tool.specs.Boot.{Boots, CarriesOut};
 
-use crate::answer::Answer;
-use crate::store::{NvState, load, save};
-use board_core::Flash;
-use fwsel_core::{Slot, select};
-use record_core::{Nv, NvField};
+use crate::answer::{Answer, Form};
+use crate::plan::{Found, Outcome, Plan, plan_boot};
+use crate::steps::{make_and_lock, make_changes, read_board};
+use board_core::{Flash, Hook, Platform, Tpm};
 
-/// Boots over the page at the start of the flash, which is all of it.
-pub fn boot<F: Flash>(flash: &mut F) -> Answer
-    requires size { (F.state flash.old).medium.size ≡ 4096 }
-    ensures { Boots (F.state flash.old) (F.state flash.new) result }
+/// Boots. `recovery` is the recovery switch. The page of nvdata is all of the flash.
+pub fn boot<F: Flash, T: Tpm, H: Hook>(p: &mut Platform<F, T, H>, recovery: bool) -> Answer
+    requires size { (world F.state T.state H.state p.old).flash.medium.size ≡ 4096 }
+    ensures { Boots recovery (world F.state T.state H.state p.old) (world F.state T.state H.state p.new) result }
 {
-    let Ok(state) = load(flash) else {
-        return Answer::FlashFault;
+    let found = match read_board(p) {
+        Ok(found) => found,
+        Err(fault) => return Answer::Fault(fault),
     };
-    let mut nv = state.nv();
-    let slot = advance(&mut nv);
-    if state.holds(&nv) {
-        return Answer::Selected(slot);
-    }
-    if state.is_full() {
+    let plan = plan_boot(recovery, &found);
+    if has_no_cell(&plan, &found) {
         return Answer::NvFull;
     }
-    let Ok(_) = save(flash, &state, &nv) else {
-        return Answer::FlashFault;
-    };
-    Answer::Selected(slot)
+    carry_out(p, &found, &plan)
 }
 
-// Selects a slot, and makes of the record the one that the boot leaves.
-fn advance(nv: &mut Nv) -> Slot
-    ensures slot { result ≡ selected_slot nv.old }
-    ensures record_after { nv.new ≡ booted_record nv.old }
-    ensures good { IsGoodRecord nv.new }
+// Makes the changes of a plan, and locks both spaces where the boot goes on.
+fn carry_out<F: Flash, T: Tpm, H: Hook>(
+    p: &mut Platform<F, T, H>,
+    found: &Found,
+    plan: &Plan,
+) -> Answer
+    requires size { (world F.state T.state H.state p.old).flash.medium.size ≡ 4096 }
+    requires unlocked { (world F.state T.state H.state p.old).tpm.locks ≡ unlocked }
+    requires state { IsTrue (world F.state T.state H.state p.old).flash.medium.told → IsStateOf (world F.state T.state H.state p.old).flash.medium.bytes found.now.state }
+    requires room { IsSome plan.now.nv → IsSome found.now.state.generation → found.now.state.next < 255 }
+    ensures { CarriesOut plan.now found.now.state.generation (world F.state T.state H.state p.old) (world F.state T.state H.state p.new) result }
 {
-    let selection = select(nv);
-    nv.set(NvField::DisableDev, 0);
-    selection.slot
+    match plan.outcome {
+        Outcome::NotBuiltRecovery => Answer::NotBuilt(Form::Recovery),
+        Outcome::Screen { reason, subcode } => match make_changes(p, &found.state, plan) {
+            Ok(_) => Answer::Screen { reason, subcode },
+            Err(fault) => Answer::Fault(fault),
+        },
+        Outcome::Selected { developer, slot } => match make_and_lock(p, &found.state, plan) {
+            Ok(_) => Answer::Selected { developer, slot },
+            Err(fault) => Answer::Fault(fault),
+        },
+    }
+}
+
+// Whether a record is to be stored and the page takes none.
+fn has_no_cell(plan: &Plan, found: &Found) -> bool
+    ensures { IsTrue result ↔ (IsSome plan.now.nv × IsSome found.now.state.generation × (found.now.state.next ≡ 255)) }
+{
+    plan.nv.is_some() && found.state.is_full()
 }

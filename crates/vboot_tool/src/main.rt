@@ -4,17 +4,22 @@
 mod answer;
 mod boot;
 mod file_flash;
+mod file_tpm;
+mod plan;
 mod run;
 mod std_sink;
+mod steps;
 mod store;
 #[cfg(test)]
 mod tests;
+mod text;
 
 use answer::Status;
-use board_core::{Flash, Sink};
+use board_core::{Fuse, FuseTpm, Platform, Sink};
+use board_mem::TableHook;
 use file_flash::FileFlash;
-use run::{is_command, run};
-use std::alloc::Global;
+use file_tpm::FileTpm;
+use run::{recovery_switch, run};
 use std::fs::{File, OpenOptions};
 use std::io::{Seek, SeekFrom, Write};
 use std::process::ExitCode;
@@ -63,7 +68,7 @@ fn end_with<O: Sink>(out: &mut O, line: &[u8], status: Status) -> Status {
     status
 }
 
-// The words after the program's name. A word that is no text is no command's.
+// The words after the program's name.
 fn words_of<R: Env + AllocGlobal>(rt: &R) -> io::Result<Vec<String>> {
     let mut words = Vec::new(rt.alloc());
     for word in env::args(rt)?.skip(1) {
@@ -80,14 +85,43 @@ fn start<R: Env + Files + AllocGlobal, O: Sink>(rt: &R, out: &mut O) -> Status {
         }
         Err(_) => return end_with(out, b"usage\n", USAGE),
     };
-    if !is_command(&words) {
+    if recovery_switch(&words).is_none() {
         // Before any image is made.
         return end_with(out, b"usage\n", USAGE);
     }
-    let Ok(mut flash) = open_flash(rt) else {
+    start_command(rt, &words, out)
+}
+
+// Opens the images, and runs the command.
+fn start_command<R: Files + AllocGlobal, O: Sink>(rt: &R, words: &[String], out: &mut O) -> Status {
+    let Ok(flash) = open_flash(rt) else {
         return end_with(out, b"cannot open flash.bin\n", CANNOT_OPEN);
     };
-    run(&words, &mut flash, out)
+    let tpm = match FileTpm::open(rt) {
+        Ok(tpm) => tpm,
+        Err(name) => return cannot_open(out, name),
+    };
+    let Ok(hook) = TableHook::new(rt.alloc(), &[], &[]) else {
+        return end_with(out, b"out of memory\n", OUT_OF_MEMORY);
+    };
+    let mut board = Platform {
+        flash: Fuse::new(rt.alloc(), flash),
+        tpm: FuseTpm::new(tpm),
+        hook,
+        map_at: 0,
+    };
+    run(words, &mut board, out)
+}
+
+fn cannot_open<O: Sink>(out: &mut O, name: &str) -> Status {
+    for part in [b"cannot open ".as_slice(), name.as_bytes()] {
+        let Ok(_) = out.put(part) else {
+            return Status {
+                code: answer::SINK_FAULT,
+            };
+        };
+    }
+    end_with(out, b"\n", CANNOT_OPEN)
 }
 
 fn main(rt: HostRuntime) -> ExitCode {

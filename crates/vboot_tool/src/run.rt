@@ -1,38 +1,55 @@
 // The top call: a command by its words, and its answer in print.
-ghost use Rattle.std.specs.Prelude.{◌≡◌, ◌↔◌, IsTrue, map, string_bytes};
-ghost use Rattle.board_core.specs.Flash.{FlashState};
+ghost use Rattle.std.specs.Prelude.{◌≡◌, ◌↔◌, IsTrue, IfSome, IfNone, map, string_bytes, false, true};
 ghost use Rattle.board_core.specs.Streams.{StreamState};
-ghost use Rattle.vboot_tool.specs.Run.{IsBoot, Works, Prints, Runs, Ends};
+ghost use Rattle.board_core.specs.World.{world};
+ghost use Rattle.vboot_tool.specs.Run.{boot_words, IsCommand, Works, Prints, Runs, Ends};
 
-use crate::answer::{Answer, SINK_FAULT, Status};
+use crate::answer::{Answer, Form, SINK_FAULT, Status};
 use crate::boot::boot;
 use crate::store::PAGE_SIZE;
-use board_core::{Flash, Sink};
+use board_core::{Flash, Hook, Platform, Sink, Tpm};
 
 /// Works the command that these words name, which follow the program's name, and prints its answer.
-pub fn run<F: Flash, O: Sink>(words: &[String], flash: &mut F, out: &mut O) -> Status
-    ensures runs { Runs (map string_bytes words.now) (F.state flash.old) (F.state flash.new) (O.state out.old) (O.state out.new) result }
-    ensures ends { Ends (map string_bytes words.now) (F.state flash.old) (F.state flash.new) (O.state out.old) (O.state out.new) result }
+pub fn run<F: Flash, T: Tpm, H: Hook, O: Sink>(
+    words: &[String],
+    p: &mut Platform<F, T, H>,
+    out: &mut O,
+) -> Status
+    ensures runs { Runs (map string_bytes words.now) (world F.state T.state H.state p.old) (world F.state T.state H.state p.new) (O.state out.old) (O.state out.new) result }
+    ensures ends { Ends (map string_bytes words.now) (world F.state T.state H.state p.old) (world F.state T.state H.state p.new) (O.state out.old) (O.state out.new) result }
 {
-    let answer = work(words, flash);
+    let answer = work(words, p);
     print(out, &answer)
 }
 
-fn work<F: Flash>(words: &[String], flash: &mut F) -> Answer
-    ensures { Works (map string_bytes words.now) (F.state flash.old) (F.state flash.new) result }
+fn work<F: Flash, T: Tpm, H: Hook>(words: &[String], p: &mut Platform<F, T, H>) -> Answer
+    ensures { Works (map string_bytes words.now) (world F.state T.state H.state p.old) (world F.state T.state H.state p.new) result }
 {
-    if !is_command(words) {
+    let Some(recovery) = recovery_switch(words) else {
         return Answer::Usage;
+    };
+    if p.flash.size() != PAGE_SIZE {
+        return Answer::NotBuilt(Form::Flash);
     }
-    if flash.size() != PAGE_SIZE {
-        return Answer::NotBuiltFlash;
-    }
-    boot(flash)
+    boot(p, recovery)
 }
 
-/// Whether these words are a command.
-pub fn is_command(words: &[String]) -> bool
-    ensures { IsTrue result ↔ IsBoot (map string_bytes words.now) }
+/// The recovery switch of these words, where they are a command.
+pub fn recovery_switch(words: &[String]) -> Option<bool>
+    ensures switch { IfSome result (λ switch. map string_bytes words.now ≡ boot_words switch) }
+    ensures none { IfNone result (IsCommand (map string_bytes words.now) → ⊥) }
+{
+    if is_boot(words) {
+        Some(false)
+    } else if is_recovery(words) {
+        Some(true)
+    } else {
+        None
+    }
+}
+
+fn is_boot(words: &[String]) -> bool
+    ensures { IsTrue result ↔ (map string_bytes words.now ≡ boot_words false) }
 {
     match words {
         [word] => word.as_str() == "boot",
@@ -40,10 +57,20 @@ pub fn is_command(words: &[String]) -> bool
     }
 }
 
+fn is_recovery(words: &[String]) -> bool
+    ensures { IsTrue result ↔ (map string_bytes words.now ≡ boot_words true) }
+{
+    match words {
+        [word, switch] => word.as_str() == "boot" && switch.as_str() == "recovery",
+        _ => false,
+    }
+}
+
 fn print<O: Sink>(out: &mut O, answer: &Answer) -> Status
     ensures { Prints answer.now (O.state out.old) (O.state out.new) result }
 {
-    let Ok(_) = out.put(answer.line()) else {
+    let text = answer.text();
+    let Ok(_) = out.put(text.as_slice()) else {
         return Status { code: SINK_FAULT };
     };
     Status {

@@ -1,9 +1,9 @@
 // The nvdata record in one page of the flash: reading which record stands, and appending another one.
-ghost use Rattle.std.specs.Prelude.{◌≡◌, ◌+◌, ◌*◌, ◌≤◌, ◌<◌, ◌↔◌, length, take, IsTrue, IsSome, IfOk, OnOk, is_err, unwrap_or};
-ghost use Rattle.board_core.specs.Counters.{Observed, MadeChanges};
+ghost use Rattle.std.specs.Prelude.{◌≡◌, ◌+◌, ◌*◌, ◌≤◌, ◌<◌, ◌↔◌, length, take, IsTrue, IsSome, IfOk, OnOk, OnErr, is_err, unwrap_or};
+ghost use Rattle.board_core.specs.Counters.{Observed, MadeChanges, Rose};
 ghost use Rattle.board_core.specs.Flash.{FlashState, IsErased, range, spliced};
 ghost use Rattle.record_core.specs.Nv.{blank_record};
-ghost use Rattle.vboot_tool.specs.Boot.{is_standing};
+ghost use Rattle.vboot_tool.specs.Plan.{is_standing};
 ghost use Rattle.vboot_tool.specs.Page.{head_of, has_head, page_generation, cell_of, is_erased, last_good, tail_start, next_cell, fresh_page, appended};
 ghost use Rattle.vboot_tool.specs.Store.{IsStateOf, changing_calls, KeepsWritten};
 
@@ -184,6 +184,7 @@ pub fn save<F: Flash>(flash: &mut F, state: &NvState, nv: &Nv) -> Result<(), Fai
     ensures counters { MadeChanges (F.state flash.old).counters (F.state flash.new).counters (changing_calls state.now.generation) (is_err result) }
     ensures size { (F.state flash.new).medium.size ≡ (F.state flash.old).medium.size }
     ensures told { (F.state flash.new).medium.told ≡ (F.state flash.old).medium.told }
+    ensures broke { OnErr result (Rose (F.state flash.old).counters.failed_changes (F.state flash.new).counters.failed_changes) }
     ensures saved { IsTrue (F.state flash.old).medium.told → OnOk result ((F.state flash.new).medium.bytes ≡ appended (F.state flash.old).medium.bytes nv.now) }
     ensures kept { IsTrue (F.state flash.old).medium.told → KeepsWritten (F.state flash.old).medium.bytes (F.state flash.new).medium.bytes }
 {
@@ -202,6 +203,7 @@ fn append<F: Flash>(flash: &mut F, cell: u16, bytes: &[u8; 16]) -> Result<(), Fa
     ensures counters { MadeChanges (F.state flash.old).counters (F.state flash.new).counters 1 (is_err result) }
     ensures size { (F.state flash.new).medium.size ≡ (F.state flash.old).medium.size }
     ensures told { (F.state flash.new).medium.told ≡ (F.state flash.old).medium.told }
+    ensures broke { OnErr result (Rose (F.state flash.old).counters.failed_changes (F.state flash.new).counters.failed_changes) }
     ensures saved { IsTrue (F.state flash.old).medium.told → OnOk result ((F.state flash.new).medium.bytes ≡ spliced (F.state flash.old).medium.bytes (16 + 16 * cell) bytes.now) }
     ensures kept { IsTrue (F.state flash.old).medium.told → take (16 + 16 * cell) (F.state flash.new).medium.bytes ≡ take (16 + 16 * cell) (F.state flash.old).medium.bytes }
 {
@@ -214,6 +216,7 @@ fn start_page<F: Flash>(flash: &mut F, bytes: &[u8; 16]) -> Result<(), Failed>
     ensures counters { MadeChanges (F.state flash.old).counters (F.state flash.new).counters 3 (is_err result) }
     ensures size { (F.state flash.new).medium.size ≡ (F.state flash.old).medium.size }
     ensures told { (F.state flash.new).medium.told ≡ (F.state flash.old).medium.told }
+    ensures broke { OnErr result (Rose (F.state flash.old).counters.failed_changes (F.state flash.new).counters.failed_changes) }
     ensures saved { IsTrue (F.state flash.old).medium.told → OnOk result ((F.state flash.new).medium.bytes ≡ fresh_page bytes.now) }
 {
     flash.erase(0)?;

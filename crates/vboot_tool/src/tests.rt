@@ -1,12 +1,15 @@
-// The rows of one boot, over devices in memory: what is printed, how it ends, and the page that is left.
-ghost use Rattle.std.specs.Prelude.{◌^◌, ◌<◌, length};
+// The rows of one boot, over devices in memory: what is printed, how it ends, and what the devices hold afterwards.
+ghost use Rattle.std.specs.Prelude.{◌^◌, ◌<◌, ◌≤◌, length};
 
 use crate::answer::Status;
 use crate::run::run;
-use board_core::Flash;
-use board_mem::{FailAt, MemFlash, MemSink, Remains};
+use board_core::{Flash, Fuse, FuseTpm, Platform, Space, Tpm};
+use board_mem::{FailAt, MemFlash, MemSink, MemTpm, Remains, TableHook};
 use std::alloc::{AllocError, Global};
+use std::process::Abort;
 use std::test::Fail;
+
+type Board = Platform<MemFlash, MemTpm, TableHook>;
 
 const HEAD: [u8; 16] = [
     0x4e, 0x56, 0x50, 0x47, 0, 0, 0, 0, 0, 0, 0, 0, 0, 0, 0, 0x77,
@@ -24,76 +27,95 @@ const BACK_TO_A: [u8; 16] = [0x40, 0, 0, 0, 0, 0, 0, 0x50, 0, 0, 0, 0, 0, 0, 0, 
 
 const BLANK: [u8; 16] = [0x70, 0, 0, 0, 0, 0, 0, 0, 0, 0, 0, 0, 0, 0, 0, 0x20];
 
-// A page before and after one boot. The flash is called `calls` times where none fails.
-struct Row<'a> {
+// A recovery is asked for, with reason 5 and subcode 6.
+const REQUEST: [u8; 16] = [0x40, 2, 5, 0, 0, 0, 6, 2, 0, 0, 0, 0, 0, 0, 0, 0xb3];
+
+// Two tries are left, and developer mode is to be switched off.
+const DISABLE: [u8; 16] = [0x40, 0x42, 0, 0, 0, 0, 0, 2, 0, 0, 0, 0, 0, 0, 0, 0x87];
+
+// Firmware spaces with flags 0, 2 and 3, one whose checksum is wrong, and one of version 1.
+const PLAIN: &[u8] = &[2, 0, 1, 0, 1, 0, 0, 0, 0, 0x4f];
+
+const DEVELOPER: &[u8] = &[2, 2, 1, 0, 1, 0, 0, 0, 0, 0x69];
+
+const DEVELOPER_LAST: &[u8] = &[2, 3, 1, 0, 1, 0, 0, 0, 0, 0x7a];
+
+const WRONG_CRC: &[u8] = &[2, 0, 1, 0, 1, 0, 0, 0, 0, 0x4e];
+
+const VERSION_ONE: &[u8] = &[1, 0, 1, 0, 1, 0, 0, 0, 0, 0xc4];
+
+// Kernel spaces: a good one, one whose checksum is wrong, one of version 1, one of version 16, and one of another uid.
+const KERNEL: &[u8] = &[2, 0x4c, 0x57, 0x52, 0x47, 1, 0, 1, 0, 0, 0, 0, 0x55];
+
+const KERNEL_CRC: &[u8] = &[2, 0x4c, 0x57, 0x52, 0x47, 1, 0, 1, 0, 0, 0, 0, 0x54];
+
+const KERNEL_ONE: &[u8] = &[1, 0x4c, 0x57, 0x52, 0x47, 1, 0, 1, 0, 0, 0, 0, 0xb2];
+
+const KERNEL_SIXTEEN: &[u8] = &[0x10, 0x4c, 0x57, 0x52, 0x47, 1, 0, 1, 0, 0, 0, 0, 0x24];
+
+const KERNEL_UID: &[u8] = &[2, 0x4d, 0x57, 0x52, 0x47, 1, 0, 1, 0, 0, 0, 0, 0x4a];
+
+// What a machine holds: so many equal cells behind a head, or a page that does not count, and both spaces.
+#[derive(Clone, Copy)]
+struct Machine<'a> {
     head: &'a [u8],
-    before: &'a [[u8; 16]],
+    cells: &'a [[u8; 16]],
     times: u32,
-    line: &'a str,
-    code: u8,
-    added: &'a [[u8; 16]],
-    calls: u32,
+    firmware: &'a [u8],
+    kernel: &'a [u8],
 }
 
-const ROWS: [Row<'static>; 5] = [
-    Row {
+// A machine with one record.
+const fn machine_of(
+    cells: &'static [[u8; 16]],
+    firmware: &'static [u8],
+    kernel: &'static [u8],
+) -> Machine<'static> {
+    Machine {
         head: &HEAD,
-        before: &[TWO_TRIES],
+        cells,
         times: 1,
-        line: "slot A\n",
-        code: 0,
-        added: &[ONE_TRY],
-        calls: 2,
-    },
+        firmware,
+        kernel,
+    }
+}
+
+// A boot: what it prints and how it ends, and the firmware space and the cell that it leaves.
+#[derive(Clone, Copy)]
+struct Row<'a> {
+    before: Machine<'a>,
+    text: &'a str,
+    code: u8,
+    firmware: &'a [u8],
+    added: &'a [[u8; 16]],
+}
+
+fn row_of<'a>(
+    before: Machine<'a>,
+    text: &'a str,
+    code: u8,
+    firmware: &'a [u8],
+    added: &'a [[u8; 16]],
+) -> Row<'a> {
     Row {
-        head: &HEAD,
-        before: &[RUN_OUT],
-        times: 1,
-        line: "slot A\n",
-        code: 0,
-        added: &[BACK_TO_A],
-        calls: 2,
-    },
-    Row {
-        head: &[],
-        before: &[],
-        times: 0,
-        line: "slot A\n",
-        code: 0,
-        added: &[BLANK],
-        calls: 4,
-    },
-    Row {
-        head: &HEAD,
-        before: &[TWO_TRIES],
-        times: 255,
-        line: "nv full\n",
-        code: 18,
-        added: &[],
-        calls: 1,
-    },
-    Row {
-        head: &HEAD,
-        before: &[BLANK],
-        times: 1,
-        line: "slot A\n",
-        code: 0,
-        added: &[],
-        calls: 1,
-    },
-];
+        before,
+        text,
+        code,
+        firmware,
+        added,
+    }
+}
 
 fn page_of(
     alloc: Global,
+    machine: &Machine<'_>,
     head: &[u8],
-    before: &[[u8; 16]],
-    times: u32,
     added: &[[u8; 16]],
 ) -> Result<Vec<u8>, AllocError> {
     let mut page = Vec::new(alloc);
     page.extend_from_slice(head)?;
-    for _ in 0..times {
-        for cell in before {
+    for _ in 0..machine.times {
+        for cell in machine.cells {
             page.extend_from_slice(cell)?;
         }
     }
@@ -104,6 +126,26 @@ fn page_of(
     Ok(page)
 }
 
+fn board_of(
+    alloc: Global,
+    page: &[u8],
+    firmware: &[u8],
+    kernel: &[u8],
+    flash_fails: &[FailAt],
+    tpm_fails: &[FailAt],
+) -> Result<Board, AllocError>
+    requires page { length page.now < 2 ^ 32 }
+    requires firmware { length firmware.now ≤ 64 }
+    requires kernel { length kernel.now ≤ 64 }
+{
+    Ok(Platform {
+        flash: Fuse::new(alloc, MemFlash::new(alloc, page, flash_fails)?),
+        tpm: FuseTpm::new(MemTpm::new(alloc, firmware, kernel, tpm_fails)?),
+        hook: TableHook::new(alloc, &[], &[])?,
+        map_at: 0,
+    })
+}
+
 fn words_of(alloc: Global, texts: &[&str]) -> Result<Vec<String>, AllocError> {
     let mut words = Vec::new(alloc);
     for text in texts {
@@ -112,70 +154,239 @@ fn words_of(alloc: Global, texts: &[&str]) -> Result<Vec<String>, AllocError> {
     Ok(words)
 }
 
-// What a run over this page printed, how it ended, and the page that it left.
+// What a run on this board printed, and how it ended.
 fn outcome(
     alloc: Global,
     texts: &[&str],
-    page: &[u8],
-    fails: &[FailAt],
+    board: &mut Board,
     room: usize,
-) -> Result<(Status, MemSink, MemFlash), AllocError>
-    requires { length page.now < 2 ^ 32 }
-{
+) -> Result<(Status, MemSink), AllocError> {
     let words = words_of(alloc, texts)?;
-    let mut flash = MemFlash::new(alloc, page, fails)?;
     let mut out = MemSink::new(alloc, room, &[])?;
-    let status = run(&words, &mut flash, &mut out);
-    Ok((status, out, flash))
+    let status = run(&words, board, &mut out);
+    Ok((status, out))
+}
+
+// The firmware space of a board.
+fn firmware_of(alloc: Global, board: &mut Board) -> Result<Vec<u8>, Fail> {
+    let mut buf = [0; 64];
+    let count = board
+        .tpm
+        .read(Space::Firmware, &mut buf)
+        .ok()
+        .ok_or("the space is read")?;
+    Ok(buf[..count].to_vec(alloc)?)
+}
+
+fn check_row(rt: &(impl AllocGlobal + Abort), row: &Row<'_>) -> Result<(), Fail> {
+    let alloc = rt.alloc();
+    let before = page_of(alloc, &row.before, row.before.head, &[])?;
+    let head = if row.added.is_empty() {
+        row.before.head
+    } else {
+        HEAD.as_slice()
+    };
+    let after = page_of(alloc, &row.before, head, row.added)?;
+    assert!(rt;
+        before.len() == 4096 && row.before.firmware.len() <= 64 && row.before.kernel.len() <= 64
+    );
+    let mut board = board_of(
+        alloc,
+        &before,
+        row.before.firmware,
+        row.before.kernel,
+        &[],
+        &[],
+    )?;
+    let (status, out) = outcome(alloc, &["boot"], &mut board, 64)?;
+    assert_eq!(rt; out.bytes(), row.text.as_bytes());
+    assert_eq!(rt; status.code, row.code, "{}", row.text);
+    assert_eq!(rt;
+        firmware_of(alloc, &mut board)?.as_slice(),
+        row.firmware,
+        "{}",
+        row.text
+    );
+    let mut left = [0; 4096];
+    assert!(rt; board.flash.size() == 4096);
+    assert!(rt; board.flash.read(0, &mut left).is_ok());
+    assert!(rt;
+        left.as_slice() == after.as_slice(),
+        "the page after {}",
+        row.text
+    );
+    Ok(())
 }
 
 #[test]
 fn rows(rt: HostRuntime) -> Result<(), Fail> {
-    let alloc = rt.alloc();
-    for row in &ROWS {
-        let before = page_of(alloc, row.head, row.before, row.times, &[])?;
-        assert!(rt; before.len() == 4096);
-        let head = if row.added.is_empty() {
-            row.head
-        } else {
-            HEAD.as_slice()
-        };
-        let after = page_of(alloc, head, row.before, row.times, row.added)?;
-        let (status, out, mut flash) = outcome(alloc, &["boot"], &before, &[], 64)?;
-        assert_eq!(rt; out.bytes(), row.line.as_bytes());
-        assert_eq!(rt; status.code, row.code, "{}", row.line);
-        assert!(rt; flash.size() == 4096);
-        let mut left = [0; 4096];
-        assert!(rt; flash.read(0, &mut left).is_ok());
-        assert!(rt;
-            left.as_slice() == after.as_slice(),
-            "the page after {}",
-            row.line
-        );
+    let normal = "mode normal\nslot A\n";
+    let full = Machine {
+        times: 255,
+        ..machine_of(&[TWO_TRIES], PLAIN, KERNEL)
+    };
+    let erased = Machine {
+        head: &[],
+        times: 0,
+        ..machine_of(&[], PLAIN, KERNEL)
+    };
+    let rows = [
+        row_of(
+            machine_of(&[TWO_TRIES], PLAIN, KERNEL),
+            normal,
+            0,
+            PLAIN,
+            &[ONE_TRY],
+        ),
+        row_of(
+            machine_of(&[RUN_OUT], PLAIN, KERNEL),
+            normal,
+            0,
+            PLAIN,
+            &[BACK_TO_A],
+        ),
+        row_of(erased, normal, 0, PLAIN, &[BLANK]),
+        row_of(full, "nv full\n", 18, PLAIN, &[]),
+        row_of(machine_of(&[BLANK], PLAIN, KERNEL), normal, 0, PLAIN, &[]),
+        row_of(
+            machine_of(&[TWO_TRIES], DEVELOPER, KERNEL),
+            "mode developer\nslot A\n",
+            0,
+            DEVELOPER_LAST,
+            &[ONE_TRY],
+        ),
+        row_of(
+            machine_of(&[DISABLE], DEVELOPER, KERNEL),
+            normal,
+            0,
+            PLAIN,
+            &[ONE_TRY],
+        ),
+        row_of(
+            machine_of(&[DISABLE], DEVELOPER_LAST, KERNEL),
+            normal,
+            0,
+            PLAIN,
+            &[ONE_TRY],
+        ),
+        row_of(
+            machine_of(&[TWO_TRIES], WRONG_CRC, KERNEL),
+            "screen reason 11 subcode 2\n",
+            3,
+            WRONG_CRC,
+            &[],
+        ),
+        row_of(
+            machine_of(&[TWO_TRIES], &[], KERNEL),
+            "screen reason 11 subcode 1\n",
+            3,
+            &[],
+            &[],
+        ),
+        row_of(
+            machine_of(&[TWO_TRIES], VERSION_ONE, KERNEL),
+            "screen reason 11 subcode 3\n",
+            3,
+            VERSION_ONE,
+            &[],
+        ),
+        row_of(
+            machine_of(&[TWO_TRIES], PLAIN, &[]),
+            "screen reason 12 subcode 1\n",
+            3,
+            PLAIN,
+            &[],
+        ),
+        row_of(
+            machine_of(&[TWO_TRIES], PLAIN, KERNEL_CRC),
+            "screen reason 12 subcode 2\n",
+            3,
+            PLAIN,
+            &[],
+        ),
+        row_of(
+            machine_of(&[TWO_TRIES], PLAIN, KERNEL_ONE),
+            "screen reason 12 subcode 3\n",
+            3,
+            PLAIN,
+            &[],
+        ),
+        row_of(
+            machine_of(&[TWO_TRIES], PLAIN, KERNEL_SIXTEEN),
+            "screen reason 12 subcode 3\n",
+            3,
+            PLAIN,
+            &[],
+        ),
+        row_of(
+            machine_of(&[TWO_TRIES], PLAIN, KERNEL_UID),
+            "screen reason 12 subcode 4\n",
+            3,
+            PLAIN,
+            &[],
+        ),
+        row_of(
+            machine_of(&[REQUEST], DEVELOPER, KERNEL),
+            "screen reason 5 subcode 6\n",
+            3,
+            DEVELOPER,
+            &[TWO_TRIES],
+        ),
+    ];
+    for row in &rows {
+        check_row(&rt, row)?;
     }
+    Ok(())
+}
+
+// A machine in developer mode, one of whose calls fails: what is printed, and the firmware space that is left.
+fn check_fault(
+    rt: &(impl AllocGlobal + Abort),
+    flash_fails: &[FailAt],
+    tpm_fails: &[FailAt],
+    text: &str,
+    firmware: &[u8],
+) -> Result<(), Fail> {
+    let alloc = rt.alloc();
+    let before = machine_of(&[TWO_TRIES], DEVELOPER, KERNEL);
+    let page = page_of(alloc, &before, &HEAD, &[])?;
+    assert!(rt; page.len() == 4096);
+    let mut board = board_of(alloc, &page, DEVELOPER, KERNEL, flash_fails, tpm_fails)?;
+    let (_status, out) = outcome(alloc, &["boot"], &mut board, 64)?;
+    assert_eq!(rt; out.bytes(), text.as_bytes());
+    assert_eq!(rt;
+        firmware_of(alloc, &mut board)?.as_slice(),
+        firmware,
+        "{text}"
+    );
     Ok(())
 }
 
 #[test]
 fn each_failing_call(rt: HostRuntime) -> Result<(), Fail> {
-    let alloc = rt.alloc();
-    for row in &ROWS {
-        let before = page_of(alloc, row.head, row.before, row.times, &[])?;
-        assert!(rt; before.len() == 4096);
-        for call in 1..6_u32 {
-            let fails = [FailAt {
-                call,
-                remains: Remains::Fill(0),
-            }];
-            let (status, out, _flash) = outcome(alloc, &["boot"], &before, &fails, 64)?;
-            let failed = call <= row.calls;
-            let line = if failed {
-                "fault flash done 0\n"
-            } else {
-                row.line
-            };
-            assert_eq!(rt; out.bytes(), line.as_bytes(), "call {call} of {}", row.line);
-            assert_eq!(rt; status.code, if failed { 5 } else { row.code });
+    for remains in [Remains::Old, Remains::New, Remains::Fill(0)] {
+        let written = if remains == Remains::New {
+            DEVELOPER_LAST
+        } else {
+            DEVELOPER
+        };
+        let flash = [
+            (1, "fault flash done 0\n", DEVELOPER),
+            (2, "fault flash done 1\n", DEVELOPER_LAST),
+        ];
+        for (call, text, firmware) in flash {
+            check_fault(&rt, &[FailAt { call, remains }], &[], text, firmware)?;
+        }
+        let tpm = [
+            (1, "fault tpm done 0\n", DEVELOPER),
+            (2, "fault tpm done 0\n", DEVELOPER),
+            (3, "fault tpm done 0\n", DEVELOPER),
+            (4, "fault tpm done 0\n", written),
+            (5, "fault tpm done 2\n", DEVELOPER_LAST),
+            (6, "fault tpm done 2\n", DEVELOPER_LAST),
+        ];
+        for (call, text, firmware) in tpm {
+            check_fault(&rt, &[], &[FailAt { call, remains }], text, firmware)?;
         }
     }
     Ok(())
@@ -184,21 +395,23 @@ fn each_failing_call(rt: HostRuntime) -> Result<(), Fail> {
 #[test]
 fn refusals(rt: HostRuntime) -> Result<(), Fail> {
     let alloc = rt.alloc();
-    let page = page_of(alloc, &HEAD, &[TWO_TRIES], 1, &[])?;
-    assert!(rt; page.len() == 4096);
-    let cases: [(&[&str], &[u8], usize, u8, &str); 6] = [
+    let before = machine_of(&[TWO_TRIES], PLAIN, KERNEL);
+    let page = page_of(alloc, &before, &HEAD, &[])?;
+    let cases: [(&[&str], &[u8], usize, u8, &str); 7] = [
         (&[], &page, 64, 1, "usage\n"),
         (&["boot", "now"], &page, 64, 1, "usage\n"),
         (&["Boot"], &page, 64, 1, "usage\n"),
+        (&["boot", "recovery"], &page, 64, 19, "not built recovery\n"),
         (&["boot"], &[0xff; 8192], 64, 19, "not built flash\n"),
         (&["boot"], &[], 64, 19, "not built flash\n"),
         (&["boot"], &page, 3, 9, ""),
     ];
-    for (words, content, room, code, line) in cases {
+    for (words, content, room, code, text) in cases {
         assert!(rt; content.len() <= 8192);
-        let (status, out, _flash) = outcome(alloc, words, content, &[], room)?;
-        assert_eq!(rt; out.bytes(), line.as_bytes());
-        assert_eq!(rt; status.code, code, "{line}");
+        let mut board = board_of(alloc, content, PLAIN, KERNEL, &[], &[])?;
+        let (status, out) = outcome(alloc, words, &mut board, room)?;
+        assert_eq!(rt; out.bytes(), text.as_bytes());
+        assert_eq!(rt; status.code, code, "{text}");
     }
     Ok(())
 }

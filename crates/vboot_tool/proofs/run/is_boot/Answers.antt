@@ -1,7 +1,7 @@
 use Rattle.std.proofs.Common.{Global}
 use Rattle.std.specs.Prelude.{string_bytes}
 use Rattle.vboot_tool.proofs.Words.{one_word}
-use Rattle.vboot_tool.proofs.run.is_command.Goals as goal
+use Rattle.vboot_tool.proofs.run.is_boot.Goals as goal
 
 pub returns-in-len1 : goal.returns-in-len1
 returns-in-len1 c =

@@ -1,4 +1,4 @@
-# `make boot` builds the proved program and runs one boot in the folder machine/ that it makes.
+# `make boot` builds the proved program and runs one boot over the images that it makes in machine/.
 
 PROGRAM := $(CURDIR)/crates/vboot_tool/out/vboot_tool
 
@@ -6,14 +6,22 @@ PROGRAM := $(CURDIR)/crates/vboot_tool/out/vboot_tool
 HEAD := NVPG\0\0\0\0\0\0\0\0\0\0\0\167
 RECORD := \100\002\0\0\0\0\0\002\0\0\0\0\0\0\0\150
 
+# The firmware space, whose flags say that the last boot was a developer's, and the kernel space. Both have version 1.1.
+FIRMWARE := \002\001\001\000\001\000\000\000\000\134
+KERNEL := \002LWRG\001\000\001\000\000\000\000\125
+
+MACHINE := machine/flash.bin machine/tpm_fw.bin machine/tpm_kernel.bin
+
 .PHONY: boot program clean
 
-boot: program machine/flash.bin
-	@echo 'before: the head, and cells 0 to 2'
+boot: program $(MACHINE)
+	@echo 'before: the head and cells 0 to 2 of the page, and the firmware space'
 	@head -c 64 machine/flash.bin | od -An -tx1
+	@od -An -tx1 machine/tpm_fw.bin
 	cd machine && $(PROGRAM) boot
 	@echo 'after:'
 	@head -c 64 machine/flash.bin | od -An -tx1
+	@od -An -tx1 machine/tpm_fw.bin
 
 # The program is linked only where it is proved. Words that are no command make no file.
 program:
@@ -23,6 +31,14 @@ program:
 machine/flash.bin:
 	mkdir -p machine
 	{ printf '$(HEAD)$(RECORD)'; head -c 4064 /dev/zero | tr '\000' '\377'; } > $@
+
+machine/tpm_fw.bin:
+	mkdir -p machine
+	printf '$(FIRMWARE)' > $@
+
+machine/tpm_kernel.bin:
+	mkdir -p machine
+	printf '$(KERNEL)' > $@
 
 clean:
 	rm -rf machine

@@ -3,9 +3,10 @@
 -- firmware/2lib/2secdata_kernel.c (the checks). Numbers are little-endian, and the last byte is the CRC-8 of the others.
 -- Of the kernel space this project reads the form before version 0x10. The order and the numbers of the faults are this
 -- project's own.
-use Rattle.std.specs.Prelude.{◌≡◌, ℕ, Bool, List, [], ◌∷◌, length, take, slice_index, slice_set, ◌==◌, ◌||◌, nat_lt, not, if◌then◌else◌, Option, Some, None, Result, Ok, Err}
+use Rattle.std.specs.Prelude.{◌≡◌, ℕ, Bool, List, [], ◌∷◌, length, take, slice_index, slice_set, ◌==◌, ◌||◌, nat_lt, not, Option, Some, None, Result, Ok, Err}
 use Rattle.wire_core.specs.Crc8.{crc8_of}
 use Rattle.wire_core.specs.Fields.{number_at, with_number}
+use Rattle.wire_core.specs.FirstFault.{Table, line, first_fault}
 use Rattle.record_core.specs.declared.space.SpaceFault.{SpaceFault}
 use Rattle.record_core.specs.declared.space.SpaceFault.TheVariants as fault
 
@@ -17,11 +18,6 @@ fault_number fault.Size = 1
 fault_number fault.Crc = 2
 fault_number fault.Version = 3
 fault_number fault.Uid = 4
-
--- the fault of the first line whose test holds
-abbrev pub first_fault : List (Bool × SpaceFault) → Option SpaceFault
-first_fault [] = None
-first_fault (line ∷ lines) = if line.0 then Some line.1 else first_fault lines
 
 -- the bytes that have this fault, or none
 abbrev pub good_bytes : Option SpaceFault → List ℕ → Result (List ℕ) SpaceFault
@@ -55,15 +51,15 @@ firmware_versions_at = 2
 abbrev pub firmware_crc_at : ℕ
 firmware_crc_at = 9
 
-abbrev pub firmware_lines : List ℕ → List (Bool × SpaceFault)
-firmware_lines bytes =
-    (not (length bytes == firmware_size), fault.Size)
-    ∷ (has_wrong_crc firmware_crc_at bytes, fault.Crc)
-    ∷ (nat_lt (slice_index bytes 0) 2, fault.Version)
+abbrev pub firmware_lines : Table (List ℕ) SpaceFault
+firmware_lines =
+    line fault.Size (λ bytes. not (length bytes == firmware_size))
+    ∷ line fault.Crc (λ bytes. has_wrong_crc firmware_crc_at bytes)
+    ∷ line fault.Version (λ bytes. nat_lt (slice_index bytes 0) 2)
     ∷ []
 
 abbrev pub firmware_fault : List ℕ → Option SpaceFault
-firmware_fault bytes = first_fault (firmware_lines bytes)
+firmware_fault bytes = first_fault firmware_lines bytes
 
 abbrev pub IsGoodFirmware : List ℕ → Type 0
 IsGoodFirmware bytes = firmware_fault bytes ≡ None
@@ -106,16 +102,16 @@ kernel_crc_at = 12
 abbrev pub kernel_uid : ℕ
 kernel_uid = 0x4752574c
 
-abbrev pub kernel_lines : List ℕ → List (Bool × SpaceFault)
-kernel_lines bytes =
-    (not (length bytes == kernel_size), fault.Size)
-    ∷ (has_wrong_crc kernel_crc_at bytes, fault.Crc)
-    ∷ (nat_lt (slice_index bytes 0) 0x02 || nat_lt 0x0f (slice_index bytes 0), fault.Version)
-    ∷ (not (number_at 4 bytes kernel_uid_at == kernel_uid), fault.Uid)
+abbrev pub kernel_lines : Table (List ℕ) SpaceFault
+kernel_lines =
+    line fault.Size (λ bytes. not (length bytes == kernel_size))
+    ∷ line fault.Crc (λ bytes. has_wrong_crc kernel_crc_at bytes)
+    ∷ line fault.Version (λ bytes. nat_lt (slice_index bytes 0) 0x02 || nat_lt 0x0f (slice_index bytes 0))
+    ∷ line fault.Uid (λ bytes. not (number_at 4 bytes kernel_uid_at == kernel_uid))
     ∷ []
 
 abbrev pub kernel_fault : List ℕ → Option SpaceFault
-kernel_fault bytes = first_fault (kernel_lines bytes)
+kernel_fault bytes = first_fault kernel_lines bytes
 
 abbrev pub IsGoodKernel : List ℕ → Type 0
 IsGoodKernel bytes = kernel_fault bytes ≡ None

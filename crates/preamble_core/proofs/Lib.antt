@@ -1,0 +1,2 @@
+pub mod SignedFirmware
+pub mod SignedKernel

@@ -2,4 +2,7 @@
 pub mod TornRecords
 pub mod TornRange
 pub mod Stops
+pub mod Overlays
+pub mod DiskTorn
+pub mod FuseDiskLemmas
 pub mod FuseLemmas

@@ -1,11 +1,12 @@
 -- How a call moves a stop and the other counters, and how the relations on counters compose. A function that makes
 -- several calls proves its own clause on counters by these laws.
-use Rattle.std.proofs.Common.{◌≡◌, ℕ, ◌+◌, ◌≤◌, ◌<◌, Bool, true, false, refl, sym, subst, arith, ◌∙◌}
+use Rattle.std.proofs.Common.{◌≡◌, ℕ, ◌+◌, ◌-◌, ◌≤◌, ◌<◌, Bool, true, false, refl, sym, subst, arith, ◌∙◌}
+use Rattle.std.specs.Prelude.{if◌then◌else◌, nat_le}
 use Rattle.std.proofs.lemmas.Bool.{false≢true}
 use Rattle.board_core.specs.declared.counters.Counters.{Counters}
 use Rattle.board_core.specs.declared.counters.FuseState.{FuseState}
 use Rattle.board_core.specs.declared.counters.FuseState.TheVariants.{Unarmed, Armed, Dead}
-use Rattle.board_core.specs.declared.counters.Turn.TheVariants.{Pass}
+use Rattle.board_core.specs.declared.counters.Turn.TheVariants.{Pass, Stop, Refuse}
 use Rattle.board_core.specs.Counters.{Moved, Changed, CountedChange, Observed, MadeChanges, MadeStep, Rose, raised, plain_counters, turn_of, stop_after}
 
 -- a call that passes on
@@ -206,3 +207,23 @@ step_moved a b n false failed own step =
 -- a device that did not fail did not die
 pub step_alive : (a b : Counters) (n : ℕ) (cut : Bool) → MadeStep a b n cut false → b.stop ≡ Dead → a.stop ≡ Dead
 step_alive a b n cut step dead = alive a.stop b.stop step.calls step.made.stop dead
+
+turn_chosen : (b : Bool) (keep : ℕ) → (if b then Stop keep else Pass) ≡ Refuse → ⊥
+turn_chosen true keep h = cc
+turn_chosen false keep h = cc
+
+-- only a dead fuse refuses a changing call
+pub refused_dead : (stop : FuseState) → turn_of stop ≡ Refuse → stop ≡ Dead
+refused_dead Unarmed h = absurd (cc)
+refused_dead Dead h = refl
+refused_dead (Armed left keep) h = absurd (turn_chosen (nat_le left 1) keep h)
+
+armed_moves : (b : Bool) (left keep : ℕ) → (if b then Stop keep else Pass) ≡ Pass → ((l k : ℕ) → (if b then Dead else Armed left keep) ≡ Armed l k → ⊥) → ⊥
+armed_moves true left keep turn other = cc
+armed_moves false left keep turn other = other left keep refl
+
+-- a fuse that passes a changing call on and is not armed after it was not armed
+pub unarmed_passes : (stop : FuseState) → turn_of stop ≡ Pass → ((l k : ℕ) → stop_after stop ≡ Armed l k → ⊥) → stop ≡ Unarmed
+unarmed_passes Unarmed turn other = refl
+unarmed_passes Dead turn other = absurd (cc)
+unarmed_passes (Armed left keep) turn other = absurd (armed_moves (nat_le left 1) (left - 1) keep turn other)

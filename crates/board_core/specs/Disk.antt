@@ -1,20 +1,10 @@
 -- What a disk is, and what each call does to it.
-use Rattle.std.specs.Prelude.{◌≡◌, ℕ, ◌+◌, ◌*◌, ◌/◌, ◌-◌, ◌^◌, ◌≤◌, min, List, [], ◌∷◌, ◌++◌, length, take, All, Bool, IsTrue, Result, is_err, OnOk, OnErr}
-use Rattle.std.specs.List.{flat_map}
+use Rattle.std.specs.Prelude.{◌≡◌, ℕ, ◌+◌, ◌*◌, ◌/◌, ◌-◌, ◌^◌, ◌≤◌, min, List, [], ◌∷◌, ◌++◌, length, take, Bool, IsTrue, Result, is_err, OnOk, OnErr}
 use Rattle.board_core.specs.declared.counters.Counters.{Counters}
 use Rattle.board_core.specs.declared.torn.Torn.{Torn}
 use Rattle.board_core.specs.Counters.{Observed, Changed}
 use Rattle.board_core.specs.Torn.{Logs, torn_records, Grown, added}
 use Rattle.board_core.specs.Flash.{range, spliced}
-
--- A write that no good flush has followed.
-pub record Written : Type 0 where
-  -- its place, in bytes
-  pub at : ℕ
-  -- the bytes that stood in its range before it
-  pub was : List ℕ
-  -- the bytes that it put there
-  pub meant : List ℕ
 
 -- What a disk holds. Contracts see `sectors` and `pending` always, and the rest is the disk's where it is told.
 pub record DiskMedium : Type 0 where
@@ -26,8 +16,9 @@ pub record DiskMedium : Type 0 where
   pub told : Bool
   -- the bytes, which all writes so far have reached
   pub bytes : List ℕ
-  -- the writes since the last flush that answered Ok, in order
-  pub writes : List Written
+  -- the writes since the last flush that answered Ok, in order: a record for each sector that was written, whose range
+  -- holds what was meant
+  pub writes : List Torn
   -- the records of torn ranges
   pub torn : Logs
   -- how many sectors were read so far
@@ -43,52 +34,44 @@ advanced count more = min (count + more) (2 ^ 64 - 1)
 
 -- ---- what a failed change leaves
 
--- A front of the range of one write, in which a failed change may have left any bytes.
-pub record Cut : Type 0 where
-  pub write : Written
-  -- the length of the front, in bytes
-  pub count : ℕ
-  -- the bytes that stand in it
-  pub left : List ℕ
+-- a record of one whole sector, in a disk of so many bytes
+pub record IsSectorOf (size : ℕ) (torn : Torn) : Type 0 where
+  pub len : torn.len ≡ 512
+  pub inside : torn.at + 512 ≤ size
+  pub was : length torn.was ≡ 512
+  pub meant : length torn.meant ≡ 512
+  pub left : length torn.left ≡ 512
 
--- a front of the write's range, perhaps none of it
-pub record IsFrontCut (cut : Cut) : Type 0 where
-  pub within : cut.count ≤ length cut.write.meant
-  pub fits : length cut.left ≡ cut.count
-
--- all of the write's range
-pub record IsWholeCut (cut : Cut) : Type 0 where
-  pub whole : cut.count ≡ length cut.write.meant
-  pub fits : length cut.left ≡ cut.count
-
--- the bytes with what each cut left put over them, one after another
-abbrev pub overlaid : List ℕ → List Cut → List ℕ
+-- the bytes with those that each record left put over them, one record after another
+abbrev pub overlaid : List ℕ → List Torn → List ℕ
 overlaid bytes [] = bytes
-overlaid bytes (cut ∷ cuts) = overlaid (spliced bytes cut.write.at cut.left) cuts
+overlaid bytes (torn ∷ rest) = overlaid (spliced bytes torn.at (take torn.len torn.left)) rest
 
--- the records of one cut
-abbrev pub cut_records : Cut → List Torn
-cut_records cut = torn_records cut.write.at (take cut.count cut.write.was) (take cut.count cut.write.meant) cut.left
+-- The record of a failed change in the range of this write: any bytes may be left there.
+pub record IsRecordOf (write torn : Torn) : Type 0 where
+  pub at : torn.at ≡ write.at
+  pub len : torn.len ≡ write.len
+  pub was : torn.was ≡ write.was
+  pub meant : torn.meant ≡ write.meant
+  pub size : length torn.left ≡ length write.left
 
--- the writes of the cuts
-abbrev pub cut_writes : List Cut → List Written
-cut_writes [] = []
-cut_writes (cut ∷ cuts) = cut.write ∷ cut_writes cuts
+-- one record for each write, in order
+abbrev pub AreRecordsOf : List Torn → List Torn → Type 0
+AreRecordsOf [] [] = Unit {0}
+AreRecordsOf (write ∷ writes) (torn ∷ rest) = IsRecordOf write torn × AreRecordsOf writes rest
+AreRecordsOf writes torn = ⊥
 
--- A change that failed, over the writes that were pending and its own write, if it has one. Any bytes may stand in each
--- pending range, which is noted whole, and in a front of its own, which is noted too. Nothing is pending after it.
-pub record LeftDiskTorn (pending own : List Written) (old new : DiskMedium) : Type 0 where
-  pub pending_cuts : List Cut
-  pub own_cuts : List Cut
-  pub of_pending : cut_writes pending_cuts ≡ pending
-  pub of_own : cut_writes own_cuts ≡ own
-  pub pending_whole : All IsWholeCut pending_cuts
-  pub own_front : All IsFrontCut own_cuts
-  -- all other bytes stay
-  pub bytes : new.bytes ≡ overlaid old.bytes (pending_cuts ++ own_cuts)
+-- A change that failed, over the writes that were pending and its own. Any bytes may stand in each sector that was
+-- pending and in the first ones of its own, and each of them is noted. Nothing is pending after it.
+pub record LeftDiskTorn (pending own : List Torn) (old new : DiskMedium) : Type 0 where
+  -- how many sectors of its own it may have touched, from the first on
+  pub count : ℕ
+  pub within : count ≤ length own
+  -- the new records tell the bytes that it left, and all other bytes stay
+  pub bytes : new.bytes ≡ overlaid old.bytes (added old.torn new.torn)
   -- no record is lost
   pub kept : Grown old.torn new.torn
-  pub noted : added old.torn new.torn ≡ flat_map cut_records (pending_cuts ++ own_cuts)
+  pub noted : AreRecordsOf (pending ++ take count own) (added old.torn new.torn)
   pub writes_end : new.writes ≡ []
 
 -- ---- the calls
@@ -106,8 +89,8 @@ pub record ReadsDisk {E : Type 0} (lba : ℕ) (buf : List ℕ) (old new : DiskSt
   pub filled : IsTrue old.medium.told → OnOk result (buf ≡ range old.medium.bytes (lba * 512) (length buf))
 
 -- the write of these bytes from a sector, over the bytes that stand there
-abbrev pub write_of : ℕ → List ℕ → DiskMedium → Written
-write_of lba meant medium = record { at = lba * 512; was = range medium.bytes (lba * 512) (length meant); meant = meant }
+abbrev pub write_records : ℕ → List ℕ → DiskMedium → List Torn
+write_records lba meant medium = torn_records (lba * 512) (range medium.bytes (lba * 512) (length meant)) meant meant
 
 -- The call to write sectors.
 pub record WritesDisk {E : Type 0} (lba : ℕ) (meant : List ℕ) (old new : DiskState) (result : Result Unit E) : Type 0 where
@@ -119,9 +102,9 @@ pub record WritesDisk {E : Type 0} (lba : ℕ) (meant : List ℕ) (old new : Dis
   -- a failed write ends what was pending
   pub none_pending : OnErr result (new.medium.pending ≡ 0)
   pub bytes : IsTrue old.medium.told → OnOk result (new.medium.bytes ≡ spliced old.medium.bytes (lba * 512) meant)
-  pub writes : IsTrue old.medium.told → OnOk result (new.medium.writes ≡ old.medium.writes ++ write_of lba meant old.medium ∷ [])
+  pub writes : IsTrue old.medium.told → OnOk result (new.medium.writes ≡ old.medium.writes ++ write_records lba meant old.medium)
   pub torn : IsTrue old.medium.told → OnOk result (new.medium.torn ≡ old.medium.torn)
-  pub err : IsTrue old.medium.told → OnErr result (LeftDiskTorn old.medium.writes (write_of lba meant old.medium ∷ []) old.medium new.medium)
+  pub err : IsTrue old.medium.told → OnErr result (LeftDiskTorn old.medium.writes (write_records lba meant old.medium) old.medium new.medium)
 
 -- A flush that answered Ok: all writes so far last.
 pub record Flushed (old new : DiskMedium) : Type 0 where

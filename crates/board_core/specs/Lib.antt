@@ -9,6 +9,9 @@ pub mod Hook
 pub mod Streams
 pub mod Fuse
 pub mod FuseTpm
+pub mod FuseDisk
+pub mod FuseDiskParts
 pub mod Fault
 pub mod World
 pub mod Renewal
+pub mod OrderedWrites

@@ -49,6 +49,8 @@ pub record Renews (space : List ℕ) (at : ℕ) (meant : List ℕ) (old new : Wo
   pub flash_told : new.flash.medium.told ≡ old.flash.medium.told
   pub tpm_told : new.tpm.told ≡ old.tpm.told
   pub locks : new.tpm.locks ≡ old.tpm.locks
+  pub disk : new.disk ≡ old.disk
+  pub stick : new.stick ≡ old.stick
   pub hook : new.hook ≡ old.hook
   pub map_at : new.map_at ≡ old.map_at
   pub ok : IsTrue old.flash.medium.told → IsTrue old.tpm.told → OnOk result (IsRenewed space at meant old new)

@@ -1,5 +1,5 @@
 // A disk of sectors of 512 bytes, whose writes last once they are flushed.
-ghost use Rattle.std.specs.Prelude.{◌≡◌, ℕ, ◌+◌, ◌*◌, ◌/◌, ◌%◌, ◌≤◌, length, sum_by, IsTrue};
+ghost use Rattle.std.specs.Prelude.{◌≡◌, ℕ, ◌+◌, ◌*◌, ◌/◌, ◌%◌, ◌≤◌, length, IsTrue};
 ghost use Rattle.board_core.specs.declared.counters.FuseState.TheVariants.{Armed};
 ghost use Rattle.board_core.specs.Disk.{DiskState, ReadsDisk, WritesDisk, Flushes};
 
@@ -10,7 +10,7 @@ use crate::device::Failed;
 ///
 /// Each call that answers `Failed` raises the count of faults, and a failed write or flush raises the number of failed
 /// changes too. A failed change may leave any bytes in each range that was pending and in a front of its own. It notes
-/// them as torn, and nothing is pending after it.
+/// them as torn, a record for each sector, and nothing is pending after it.
 pub trait Disk {
     ghost state: { Self → DiskState };
 
@@ -34,8 +34,8 @@ pub trait Disk {
 
     /// Writes whole sectors from `lba`, of which at most 64 are then pending.
     ///
-    /// `Failed`: any bytes may stand in each range that was pending and in a front of this one. All are noted as torn,
-    /// and nothing is pending.
+    /// `Failed`: any bytes may stand in each range that was pending and in the first sectors of this one. All are noted
+    /// as torn, and nothing is pending.
     fn write(&mut self, lba: u64, bytes: &[u8]) -> Result<(), Failed>
         requires whole { length bytes.now % 512 ≡ 0 }
         requires inside { lba + length bytes.now / 512 ≤ (state self.old).medium.sectors }
@@ -54,6 +54,6 @@ pub trait Disk {
     /// The bytes that are told are those of the sectors.
     ghost told_size: { (disk : Self) → IsTrue (state disk).medium.told → length (state disk).medium.bytes ≡ (state disk).medium.sectors * 512 };
 
-    /// The pending writes that are told have the bytes of the pending sectors.
-    ghost told_pending: { (disk : Self) → IsTrue (state disk).medium.told → sum_by (λ written. length written.meant) (state disk).medium.writes ≡ (state disk).medium.pending * 512 };
+    /// The pending writes that are told are as many as the pending sectors.
+    ghost told_pending: { (disk : Self) → IsTrue (state disk).medium.told → length (state disk).medium.writes ≡ (state disk).medium.pending };
 }

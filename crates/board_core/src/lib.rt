@@ -3,9 +3,10 @@
 //! - `flash`, `tpm`, `disk`, `hook` and `streams` have a trait for each device. Each call has one relation over what the
 //!   device holds and counts before it and after it.
 //! - `counters` has what a device counts and where its stop stands, and `torn` the records of ranges left torn.
-//! - `fuse` and `fuse_calls` are a fuse over a flash, `fuse_tpm` and `fuse_tpm_calls` one over a TPM: a struct and its calls.
+//! - `fuse` and `fuse_calls` are a fuse over a flash, `fuse_tpm` and `fuse_tpm_calls` one over a TPM, and `fuse_disk` and
+//!   `fuse_disk_calls` one over a disk: a struct and its calls. `fuse_disk_parts` has the parts of the calls of the last.
 //! - `device` has the names of the devices, and `platform` a board of them.
-//! - `renewal` is an example of a caller over a board, in tests alone.
+//! - `renewal` is an example of a caller over a board, and `ordered_writes` one over a disk, in tests alone.
 #![tactic(auto)]
 
 mod counters;
@@ -14,10 +15,15 @@ mod disk;
 mod flash;
 mod fuse;
 mod fuse_calls;
+mod fuse_disk;
+mod fuse_disk_calls;
+mod fuse_disk_parts;
 mod fuse_tpm;
 mod fuse_tpm_calls;
 mod hook;
 mod hook_row;
+#[cfg(test)]
+mod ordered_writes;
 mod platform;
 #[cfg(test)]
 mod renewal;
@@ -30,6 +36,7 @@ pub use device::{Device, Failed, Fault, Space};
 pub use disk::Disk;
 pub use flash::{Flash, make_erased_page};
 pub use fuse::Fuse;
+pub use fuse_disk::FuseDisk;
 pub use fuse_tpm::FuseTpm;
 pub use hook::{EnrollFault, Hook};
 pub use hook_row::HookRow;

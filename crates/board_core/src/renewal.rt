@@ -5,16 +5,19 @@ ghost use Rattle.board_core.specs.Tpm.{is_locked};
 ghost use Rattle.board_core.specs.World.{world};
 ghost use Rattle.board_core.specs.Renewal.{Renews};
 
-mod plain;
+pub mod plain;
 
-use crate::{Device, Failed, Fault, Flash, Fuse, FuseState, FuseTpm, Hook, Platform, Space, Tpm};
-use plain::{PlainFlash, PlainHook, PlainTpm};
+use crate::{
+    Device, Disk, Failed, Fault, Flash, Fuse, FuseDisk, FuseState, FuseTpm, Hook, Platform, Space,
+    Tpm,
+};
+use plain::{PlainDisk, PlainFlash, PlainHook, PlainTpm};
 use std::alloc::{AllocError, Global};
 use std::test::Fail;
 
 // Reads a head of the flash, writes the firmware space, and then programs a record: two changes.
-fn renew<F: Flash, T: Tpm, H: Hook>(
-    board: &mut Platform<F, T, H>,
+fn renew<F: Flash, T: Tpm, D: Disk, E: Disk, H: Hook>(
+    board: &mut Platform<F, T, D, E, H>,
     head: &mut [u8],
     space: &[u8],
     at: u32,
@@ -48,7 +51,7 @@ fn renew<F: Flash, T: Tpm, H: Hook>(
     Ok(())
 }
 
-type Board = Platform<PlainFlash, PlainTpm, PlainHook>;
+type Board = Platform<PlainFlash, PlainTpm, PlainDisk, PlainDisk, PlainHook>;
 
 // A board with an erased page, empty spaces, no lock and no stop.
 fn make_board(alloc: Global) -> Board
@@ -67,6 +70,8 @@ fn make_board(alloc: Global) -> Board
     Platform {
         flash: Fuse::new(alloc, flash),
         tpm: FuseTpm::new(tpm),
+        disk: FuseDisk::new(alloc, PlainDisk { pending: 0 }),
+        stick: FuseDisk::new(alloc, PlainDisk { pending: 0 }),
         hook: PlainHook,
         map_at: 0,
     }
@@ -76,6 +81,8 @@ fn make_board(alloc: Global) -> Board
 fn stop_first_change(board: &mut Board, device: Device, keep: u32) -> Result<(), AllocError>
     ensures flash { board.new.flash.inner ≡ board.old.flash.inner }
     ensures tpm { board.new.tpm.inner ≡ board.old.tpm.inner }
+    ensures disk { board.new.disk ≡ board.old.disk }
+    ensures stick { board.new.stick ≡ board.old.stick }
     ensures hook { board.new.hook ≡ board.old.hook }
 {
     match device {

@@ -1,3 +1,4 @@
+pub mod DiskLeaves
 pub mod Leaves
 pub mod Plans
 pub mod Rows

@@ -1,4 +1,6 @@
 pub mod Fails
+pub mod Remains
+pub mod MemDisk
 pub mod MemFlash
 pub mod MemSink
 pub mod MemSource

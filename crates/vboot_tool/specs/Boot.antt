@@ -125,6 +125,8 @@ pub record CarriesOut (plan : Plan) (generation : Option ℕ) (old new : World) 
   pub flash_size : new.flash.medium.size ≡ old.flash.medium.size
   pub flash_told : new.flash.medium.told ≡ old.flash.medium.told
   pub tpm_told : new.tpm.told ≡ old.tpm.told
+  pub disk : new.disk ≡ old.disk
+  pub stick : new.stick ≡ old.stick
   pub hook : new.hook ≡ old.hook
   pub map_at : new.map_at ≡ old.map_at
   pub locks : LocksAfter answer new.tpm.locks
@@ -148,6 +150,8 @@ pub record Boots (switch : Bool) (old new : World) (answer : Answer) : Type 0 wh
   pub flash_size : new.flash.medium.size ≡ old.flash.medium.size
   pub flash_told : new.flash.medium.told ≡ old.flash.medium.told
   pub tpm_told : new.tpm.told ≡ old.tpm.told
+  pub disk : new.disk ≡ old.disk
+  pub stick : new.stick ≡ old.stick
   pub hook : new.hook ≡ old.hook
   pub map_at : new.map_at ≡ old.map_at
   pub locks : LocksAfter answer new.tpm.locks

@@ -34,6 +34,8 @@ pub record ReadsBoard (old new : World) (result : Result Found Fault) : Type 0 w
   pub medium : new.flash.medium ≡ old.flash.medium
   pub spaces : new.tpm.spaces ≡ old.tpm.spaces
   pub tpm_told : new.tpm.told ≡ old.tpm.told
+  pub disk : new.disk ≡ old.disk
+  pub stick : new.stick ≡ old.stick
   pub hook : new.hook ≡ old.hook
   pub map_at : new.map_at ≡ old.map_at
   pub unlocked : OnOk result (new.tpm.locks ≡ unlocked)
@@ -108,6 +110,8 @@ pub record MakesChanges (plan : Plan) (generation : Option ℕ) (old new : World
   pub flash_told : new.flash.medium.told ≡ old.flash.medium.told
   pub tpm_told : new.tpm.told ≡ old.tpm.told
   pub locks : new.tpm.locks ≡ old.tpm.locks
+  pub disk : new.disk ≡ old.disk
+  pub stick : new.stick ≡ old.stick
   pub hook : new.hook ≡ old.hook
   pub map_at : new.map_at ≡ old.map_at
   pub kept : IsTrue old.flash.medium.told → KeepsWritten old.flash.medium.bytes new.flash.medium.bytes
@@ -126,6 +130,8 @@ pub record LocksBoth (done : ℕ) (old new : World) (result : Result Unit Fault)
   pub tpm : Observed old.tpm.counters new.tpm.counters (is_err result)
   pub spaces : new.tpm.spaces ≡ old.tpm.spaces
   pub tpm_told : new.tpm.told ≡ old.tpm.told
+  pub disk : new.disk ≡ old.disk
+  pub stick : new.stick ≡ old.stick
   pub hook : new.hook ≡ old.hook
   pub map_at : new.map_at ≡ old.map_at
   pub locked : OnOk result (new.tpm.locks ≡ both_locked)
@@ -149,6 +155,8 @@ pub record MakesAndLocks (plan : Plan) (generation : Option ℕ) (old new : Worl
   pub size : new.flash.medium.size ≡ old.flash.medium.size
   pub flash_told : new.flash.medium.told ≡ old.flash.medium.told
   pub tpm_told : new.tpm.told ≡ old.tpm.told
+  pub disk : new.disk ≡ old.disk
+  pub stick : new.stick ≡ old.stick
   pub hook : new.hook ≡ old.hook
   pub map_at : new.map_at ≡ old.map_at
   pub kept : IsTrue old.flash.medium.told → KeepsWritten old.flash.medium.bytes new.flash.medium.bytes

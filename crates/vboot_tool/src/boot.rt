@@ -9,10 +9,13 @@ ghost use Rattle.vboot_tool.specs.Boot.{Boots, CarriesOut};
 use crate::answer::{Answer, Form};
 use crate::plan::{Found, Outcome, Plan, plan_boot};
 use crate::steps::{make_and_lock, make_changes, read_board};
-use board_core::{Flash, Hook, Platform, Tpm};
+use board_core::{Disk, Flash, Hook, Platform, Tpm};
 
 /// Boots. `recovery` is the recovery switch. The page of nvdata is all of the flash.
-pub fn boot<F: Flash, T: Tpm, H: Hook>(p: &mut Platform<F, T, H>, recovery: bool) -> Answer
+pub fn boot<F: Flash, T: Tpm, D: Disk, E: Disk, H: Hook>(
+    p: &mut Platform<F, T, D, E, H>,
+    recovery: bool,
+) -> Answer
     requires size { (world F.state T.state H.state p.old).flash.medium.size ≡ 4096 }
     ensures { Boots recovery (world F.state T.state H.state p.old) (world F.state T.state H.state p.new) result }
 {
@@ -28,8 +31,8 @@ pub fn boot<F: Flash, T: Tpm, H: Hook>(p: &mut Platform<F, T, H>, recovery: bool
 }
 
 // Makes the changes of a plan, and locks both spaces where the boot goes on.
-fn carry_out<F: Flash, T: Tpm, H: Hook>(
-    p: &mut Platform<F, T, H>,
+fn carry_out<F: Flash, T: Tpm, D: Disk, E: Disk, H: Hook>(
+    p: &mut Platform<F, T, D, E, H>,
     found: &Found,
     plan: &Plan,
 ) -> Answer

@@ -15,8 +15,8 @@ mod tests;
 mod text;
 
 use answer::Status;
-use board_core::{Fuse, FuseTpm, Platform, Sink};
-use board_mem::TableHook;
+use board_core::{Fuse, FuseDisk, FuseTpm, Platform, Sink};
+use board_mem::{MemDisk, TableHook};
 use file_flash::FileFlash;
 use file_tpm::FileTpm;
 use run::{recovery_switch, run};
@@ -104,9 +104,18 @@ fn start_command<R: Files + AllocGlobal, O: Sink>(rt: &R, words: &[String], out:
     let Ok(hook) = TableHook::new(rt.alloc(), &[], &[]) else {
         return end_with(out, b"out of memory\n", OUT_OF_MEMORY);
     };
+    // No boot calls a disk yet, so both are empty.
+    let Ok(disk) = MemDisk::new(rt.alloc(), &[], &[]) else {
+        return end_with(out, b"out of memory\n", OUT_OF_MEMORY);
+    };
+    let Ok(stick) = MemDisk::new(rt.alloc(), &[], &[]) else {
+        return end_with(out, b"out of memory\n", OUT_OF_MEMORY);
+    };
     let mut board = Platform {
         flash: Fuse::new(rt.alloc(), flash),
         tpm: FuseTpm::new(tpm),
+        disk: FuseDisk::new(rt.alloc(), disk),
+        stick: FuseDisk::new(rt.alloc(), stick),
         hook,
         map_at: 0,
     };

@@ -7,12 +7,12 @@ ghost use Rattle.vboot_tool.specs.Run.{boot_words, IsCommand, Works, Prints, Run
 use crate::answer::{Answer, Form, SINK_FAULT, Status};
 use crate::boot::boot;
 use crate::store::PAGE_SIZE;
-use board_core::{Flash, Hook, Platform, Sink, Tpm};
+use board_core::{Disk, Flash, Hook, Platform, Sink, Tpm};
 
 /// Works the command that these words name, which follow the program's name, and prints its answer.
-pub fn run<F: Flash, T: Tpm, H: Hook, O: Sink>(
+pub fn run<F: Flash, T: Tpm, D: Disk, E: Disk, H: Hook, O: Sink>(
     words: &[String],
-    p: &mut Platform<F, T, H>,
+    p: &mut Platform<F, T, D, E, H>,
     out: &mut O,
 ) -> Status
     ensures runs { Runs (map string_bytes words.now) (world F.state T.state H.state p.old) (world F.state T.state H.state p.new) (O.state out.old) (O.state out.new) result }
@@ -22,7 +22,10 @@ pub fn run<F: Flash, T: Tpm, H: Hook, O: Sink>(
     print(out, &answer)
 }
 
-fn work<F: Flash, T: Tpm, H: Hook>(words: &[String], p: &mut Platform<F, T, H>) -> Answer
+fn work<F: Flash, T: Tpm, D: Disk, E: Disk, H: Hook>(
+    words: &[String],
+    p: &mut Platform<F, T, D, E, H>,
+) -> Answer
     ensures { Works (map string_bytes words.now) (world F.state T.state H.state p.old) (world F.state T.state H.state p.new) result }
 {
     let Some(recovery) = recovery_switch(words) else {

@@ -10,11 +10,13 @@ ghost use Rattle.vboot_tool.specs.Steps.{ReadsBoard, WritesFirmware, StoresRecor
 
 use crate::plan::{Found, Plan};
 use crate::store::{NvState, load, save};
-use board_core::{Device, Failed, Fault, Flash, Hook, Platform, Space, Tpm};
+use board_core::{Device, Disk, Failed, Fault, Flash, Hook, Platform, Space, Tpm};
 use record_core::{FwSpace, KernelSpace, Nv};
 
 /// Starts the TPM, and reads the page of nvdata and both spaces.
-pub fn read_board<F: Flash, T: Tpm, H: Hook>(p: &mut Platform<F, T, H>) -> Result<Found, Fault>
+pub fn read_board<F: Flash, T: Tpm, D: Disk, E: Disk, H: Hook>(
+    p: &mut Platform<F, T, D, E, H>,
+) -> Result<Found, Fault>
     requires size { (world F.state T.state H.state p.old).flash.medium.size ≡ 4096 }
     ensures { ReadsBoard (world F.state T.state H.state p.old) (world F.state T.state H.state p.new) result }
 {
@@ -82,8 +84,8 @@ fn store_record<F: Flash>(flash: &mut F, state: &NvState, change: &Option<Nv>) -
 }
 
 /// Makes the changes of a plan, and answers how many they are.
-pub fn make_changes<F: Flash, T: Tpm, H: Hook>(
-    p: &mut Platform<F, T, H>,
+pub fn make_changes<F: Flash, T: Tpm, D: Disk, E: Disk, H: Hook>(
+    p: &mut Platform<F, T, D, E, H>,
     state: &NvState,
     plan: &Plan,
 ) -> Result<u8, Fault>
@@ -109,8 +111,8 @@ pub fn make_changes<F: Flash, T: Tpm, H: Hook>(
 }
 
 /// Locks both spaces, after so many changes.
-pub fn lock_both<F: Flash, T: Tpm, H: Hook>(
-    p: &mut Platform<F, T, H>,
+pub fn lock_both<F: Flash, T: Tpm, D: Disk, E: Disk, H: Hook>(
+    p: &mut Platform<F, T, D, E, H>,
     done: u8,
 ) -> Result<(), Fault>
     ensures { LocksBoth done (world F.state T.state H.state p.old) (world F.state T.state H.state p.new) result }
@@ -131,8 +133,8 @@ pub fn lock_both<F: Flash, T: Tpm, H: Hook>(
 }
 
 /// Makes the changes of a plan, and then locks both spaces.
-pub fn make_and_lock<F: Flash, T: Tpm, H: Hook>(
-    p: &mut Platform<F, T, H>,
+pub fn make_and_lock<F: Flash, T: Tpm, D: Disk, E: Disk, H: Hook>(
+    p: &mut Platform<F, T, D, E, H>,
     state: &NvState,
     plan: &Plan,
 ) -> Result<(), Fault>

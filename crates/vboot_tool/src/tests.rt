@@ -3,13 +3,13 @@ ghost use Rattle.std.specs.Prelude.{◌^◌, ◌<◌, ◌≤◌, length};
 
 use crate::answer::Status;
 use crate::run::run;
-use board_core::{Flash, Fuse, FuseTpm, Platform, Space, Tpm};
-use board_mem::{FailAt, MemFlash, MemSink, MemTpm, Remains, TableHook};
+use board_core::{Flash, Fuse, FuseDisk, FuseTpm, Platform, Space, Tpm};
+use board_mem::{FailAt, MemDisk, MemFlash, MemSink, MemTpm, Remains, TableHook};
 use std::alloc::{AllocError, Global};
 use std::process::Abort;
 use std::test::Fail;
 
-type Board = Platform<MemFlash, MemTpm, TableHook>;
+type Board = Platform<MemFlash, MemTpm, MemDisk, MemDisk, TableHook>;
 
 const HEAD: [u8; 16] = [
     0x4e, 0x56, 0x50, 0x47, 0, 0, 0, 0, 0, 0, 0, 0, 0, 0, 0, 0x77,
@@ -141,6 +141,8 @@ fn board_of(
     Ok(Platform {
         flash: Fuse::new(alloc, MemFlash::new(alloc, page, flash_fails)?),
         tpm: FuseTpm::new(MemTpm::new(alloc, firmware, kernel, tpm_fails)?),
+        disk: FuseDisk::new(alloc, MemDisk::new(alloc, &[], &[])?),
+        stick: FuseDisk::new(alloc, MemDisk::new(alloc, &[], &[])?),
         hook: TableHook::new(alloc, &[], &[])?,
         map_at: 0,
     })

@@ -1,6 +1,6 @@
-// The devices of the example: a flash, a TPM and a hook that never fail and tell no content.
+// The devices of the example: a flash, a TPM, a disk and a hook that never fail and tell no content.
 
-use crate::{EnrollFault, Failed, Flash, Hook, HookRow, Space, Tpm};
+use crate::{Disk, EnrollFault, Failed, Flash, Hook, HookRow, Space, Tpm};
 
 /// A flash of one page.
 #[derive(Drop)]
@@ -88,6 +88,49 @@ impl Tpm for PlainTpm {
             Space::Firmware => self.is_firmware_locked = true,
             Space::Kernel => self.is_kernel_locked = true,
         }
+        Ok(())
+    }
+}
+
+/// A disk of 8 sectors, which hold zeros whatever is written.
+#[derive(Drop)]
+pub struct PlainDisk {
+    pub pending: u32,
+}
+
+impl Disk for PlainDisk {
+    ghost use Rattle.std.specs.Prelude.{[], false};
+    ghost use Rattle.std.proofs.lemmas.Bool.{false≢true};
+    ghost use Rattle.board_core.specs.Counters.{plain_counters};
+
+    ghost state = { λ disk. record { medium = record { sectors = 8; pending = disk.pending; told = false; bytes = []; writes = []; torn = []; sectors_read = 0 }; counters = plain_counters 0 0 } };
+
+    ghost armed = { λ disk left keep h. Prim.cc };
+
+    ghost told_size = { λ disk told. absurd (false≢true told) };
+
+    ghost told_pending = { λ disk told. absurd (false≢true told) };
+
+    fn sectors(&self) -> u64 {
+        8
+    }
+
+    fn pending(&self) -> u32 {
+        self.pending
+    }
+
+    fn read(&mut self, _lba: u64, buf: &mut [u8]) -> Result<(), Failed> {
+        buf.fill(0);
+        Ok(())
+    }
+
+    fn write(&mut self, _lba: u64, bytes: &[u8]) -> Result<(), Failed> {
+        self.pending += bytes.len() as u32 / 512;
+        Ok(())
+    }
+
+    fn flush(&mut self) -> Result<(), Failed> {
+        self.pending = 0;
         Ok(())
     }
 }

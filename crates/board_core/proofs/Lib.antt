@@ -6,3 +6,4 @@ pub mod Overlays
 pub mod DiskTorn
 pub mod FuseDiskLemmas
 pub mod FuseLemmas
+pub mod Rows

@@ -5,6 +5,7 @@
 //! - `counters` has what a device counts and where its stop stands, and `torn` the records of ranges left torn.
 //! - `fuse` and `fuse_calls` are a fuse over a flash, `fuse_tpm` and `fuse_tpm_calls` one over a TPM, and `fuse_disk` and
 //!   `fuse_disk_calls` one over a disk: a struct and its calls. `fuse_disk_parts` has the parts of the calls of the last.
+//! - `hook_row` is a row of a hook, and `hook_rows` looks one up in a list.
 //! - `device` has the names of the devices, and `platform` a board of them.
 //! - `renewal` is an example of a caller over a board, and `ordered_writes` one over a disk, in tests alone.
 #![tactic(auto)]
@@ -22,6 +23,7 @@ mod fuse_tpm;
 mod fuse_tpm_calls;
 mod hook;
 mod hook_row;
+mod hook_rows;
 #[cfg(test)]
 mod ordered_writes;
 mod platform;
@@ -40,6 +42,7 @@ pub use fuse_disk::FuseDisk;
 pub use fuse_tpm::FuseTpm;
 pub use hook::{EnrollFault, Hook};
 pub use hook_row::HookRow;
+pub use hook_rows::{MOST_ROWS, has_row, is_accepted};
 pub use platform::Platform;
 pub use streams::{Sink, Source};
 pub use torn::{Torn, note};

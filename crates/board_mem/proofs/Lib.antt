@@ -1,4 +1,3 @@
 pub mod DiskLeaves
 pub mod Leaves
 pub mod Plans
-pub mod Rows

@@ -1,18 +1,13 @@
 // What a hook over a table does.
-ghost use Rattle.std.specs.Prelude.{◌≡◌, ◌↔◌, ◌≤◌, length, Contains, IsTrue, false, IfOk, IfSome, IfNone, IsErrOf, is_err, is_some};
-ghost use Rattle.board_core.specs.HookRow.{is_digest_size};
-ghost use Rattle.board_core.specs.Hook.{IsRowOf, HasNoRoom, Verifies, Enrolls};
+ghost use Rattle.std.specs.Prelude.{◌≡◌, ◌↔◌, ◌≤◌, length, IsTrue, IfOk, IsErrOf, is_err, is_some};
+ghost use Rattle.board_core.specs.Hook.{HasNoRoom, Verifies, Enrolls};
 ghost use Rattle.board_mem.specs.Fails.{FollowsPlan, next_failure, after_call, count_with};
 ghost use Rattle.board_mem.specs.TableHook.{table_hook_state, table_hook_plan};
 
 use crate::fails::{FailAt, Schedule};
 use crate::table_hook::TableHook;
-use board_core::{EnrollFault, Failed, Hook, HookRow, raise};
-use sha2::{Digest, Sha256};
+use board_core::{EnrollFault, Failed, Hook, HookRow, MOST_ROWS, has_row, is_accepted, raise};
 use std::alloc::{AllocError, Global};
-
-// The most rows that a hook has.
-const MOST_ROWS: usize = 4096;
 
 impl TableHook {
     /// A hook with these rows, of whose calls these fail. It takes the memory of both lists here; `enroll` takes more.
@@ -30,32 +25,6 @@ impl TableHook {
             faults: 0,
         })
     }
-}
-
-// The row of a key, a message's digest and a signature. A digest of no row's length has none.
-fn row_of(algorithm: u32, key: &[u8], digest: &[u8], signature: &[u8]) -> Option<HookRow>
-    ensures row { IfSome result (IsRowOf algorithm key.now digest.now signature.now) }
-    ensures none { IfNone result (is_digest_size (length digest.now) ≡ false) }
-{
-    if digest.len() != 32 && digest.len() != 64 {
-        return None;
-    }
-    let mut padded = [0; 64];
-    padded[..digest.len()].copy_from_slice(digest);
-    Some(HookRow {
-        algorithm,
-        key: Sha256::digest(key),
-        digest_len: digest.len() as u8,
-        digest: padded,
-        signature: Sha256::digest(signature),
-    })
-}
-
-// Whether a row is in a list.
-fn has_row(rows: &[HookRow], row: &HookRow) -> bool
-    ensures { IsTrue result ↔ Contains rows.now row.now }
-{
-    rows.contains(row)
 }
 
 impl Hook for TableHook {
@@ -76,10 +45,7 @@ impl Hook for TableHook {
             self.faults = raise(self.faults);
             return Err(Failed);
         }
-        match row_of(algorithm, key, digest, signature) {
-            Some(row) => Ok(has_row(&self.rows, &row)),
-            None => Ok(false),
-        }
+        Ok(is_accepted(&self.rows, algorithm, key, digest, signature))
     }
 
     fn enroll(&mut self, row: &HookRow) -> Result<(), EnrollFault>

@@ -1,11 +1,11 @@
 -- What the parts of a fuse's calls make of the disk below and of the fuse's list and log.
-use Rattle.std.proofs.Common.{◌≡◌, ◌⊎◌, ℕ, ◌+◌, ◌*◌, ◌/◌, ◌%◌, ◌≤◌, List, [], ◌∷◌, ◌++◌, length, take, drop, IsTrue, inl, inr, refl, sym, ap, ◌∙◌, subst, arith, append_assoc, length-append, length-take, length-drop}
+use Rattle.std.proofs.Common.{◌≡◌, ℕ, ◌+◌, ◌*◌, ◌/◌, ◌%◌, ◌≤◌, List, [], ◌∷◌, ◌++◌, length, take, drop, IsTrue, inl, inr, refl, sym, ap, ◌∙◌, subst, arith, append_assoc, length-append, length-take, length-drop}
 use Rattle.std.proofs.lemmas.List.{take_all}
 use Rattle.std.proofs.lemmas.List.Elements.{All-nil, All-append}
 use Rattle.std.proofs.lemmas.Result.{on_ok_weaker, on_err_weaker}
-use Rattle.std.specs.Prelude.{All, Result, Err, is_err, OnOk, ◌^◌, ◌-◌}
+use Rattle.std.specs.Prelude.{All, Result, Ok, Err, is_err, false, OnOk, ◌^◌, ◌-◌}
 use Rattle.board_core.specs.declared.torn.Torn.{Torn}
-use Rattle.board_core.specs.Counters.{Rose, Observed, Changed}
+use Rattle.board_core.specs.Counters.{Observed, Changed}
 use Rattle.board_core.specs.declared.counters.Counters.{Counters}
 use Rattle.board_core.specs.declared.device.Failed.{Failed}
 use Rattle.board_core.specs.declared.disk.Disk.{Ghosts}
@@ -15,26 +15,28 @@ use Rattle.board_core.specs.declared.counters.FuseState.TheVariants.{Unarmed}
 use Rattle.board_core.specs.FuseDisk.{state_below, PassesWrite}
 use Rattle.board_core.specs.Torn.{Logs, torn_records}
 use Rattle.board_core.specs.Flash.{range, spliced}
-use Rattle.board_core.specs.Disk.{DiskMedium, DiskState, LeftDiskTorn, ReadsDisk, WritesDisk, Flushes, Flushed, advanced, overlaid, IsSectorOf, AreRecordsOf, write_records}
-use Rattle.board_core.specs.FuseDiskParts.{with_disk_log, Mirrors, FailedBelowDisk, WritesContent, CutsFlush}
-use Rattle.board_core.proofs.Stops.{rose_before}
+use Rattle.board_core.specs.Disk.{DiskMedium, DiskState, LeftDiskTorn, LeftDisk, ReadsDisk, WritesDisk, Flushes, Flushed, advanced, overlaid, IsSectorOf, AreRecordsOf, write_records}
+use Rattle.board_core.specs.FuseDiskParts.{with_disk_log, Mirrors, WritesContent, WritesAfterRead}
 use Rattle.board_core.proofs.TornRange.{spliced_tail}
 use Rattle.board_core.proofs.Overlays.{overlaid-append, overlaid-again, overlaid-range, records_of-same, records_of-range, records_of-append, sectors_of-range, length-torn_records}
-use Rattle.board_core.proofs.DiskTorn.{left_disk_torn_noted, left_disk_torn_counted, left_disk_torn_uncounted, left_disk_torn_with_log, left_disk_torn_front, records-front}
+use Rattle.board_core.proofs.DiskTorn.{left_disk_torn_noted, left_disk_torn_counted, left_disk_torn_uncounted, left_disk_torn_with_log, left_disk_torn_front, left_disk_with_log, left_disk_counted, left_disk_uncounted, records-front}
 
--- what the fuse noted where the disk failed in the read of the old bytes
-noted_at_read : (old mid new : DiskState) (n : ℕ) (log log' : List Torn) → mid.medium ≡ record old.medium { sectors_read = n } → CutsFlush mid new log log' → (log' ≡ log) ⊎ (IsTrue old.medium.told → log' ≡ log ++ old.medium.writes)
-noted_at_read old mid new n log log' same (inl failed) =
-    subst (λ (m : DiskMedium). (log' ≡ log) ⊎ (IsTrue m.told → log' ≡ log ++ m.writes)) same failed.noted
-noted_at_read old mid new n log log' same (inr keeps) =
-    inr (λ told. (keeps (subst (λ (m : DiskMedium). IsTrue m.told) (sym same) told)).noted ∙ ap (λ (m : DiskMedium). log ++ m.writes) same)
+-- a failure carries no more than that it is one
+same_answer : (a b : Result Unit Failed) → is_err a ≡ is_err b → a ≡ b
+same_answer (Ok done) (Ok done') same = refl
+same_answer (Ok done) (Err failure) same = absurd (cc)
+same_answer (Err failure) (Ok done) same = absurd (cc)
+same_answer (Err failure) (Err failure') same = refl
 
--- the disk failed in the read of the old bytes, and was flushed then
-pub failed_at_read : (old mid new : DiskState) (n : ℕ) (log log' : List Torn) → Rose old.counters.faults mid.counters.faults → mid.counters.faults ≤ new.counters.faults → mid.medium ≡ record old.medium { sectors_read = n }
-    → CutsFlush mid new log log' → FailedBelowDisk old new log log'
-failed_at_read old mid new n log log' rose later same cut = record {
-  cause = rose_before old.counters.faults mid.counters.faults new.counters.faults rose later;
-  noted = noted_at_read old mid new n log log' same cut;
+-- the disk read the old bytes, and then it did and answered what its write does
+pub writes_after_read : (lba : ℕ) (was meant : List ℕ) (old mid new : DiskState) (read answer result : Result Unit Failed) → length was ≡ length meant → is_err read ≡ false → is_err answer ≡ is_err result
+    → ReadsDisk lba was old mid read → WritesDisk lba meant mid new answer → WritesAfterRead lba meant old new result
+writes_after_read lba was meant old mid new read answer result fits good same reads writes = record {
+  was = was;
+  fits = fits;
+  mid = mid;
+  read = subst (λ (r : Result Unit Failed). ReadsDisk lba was old mid r) (same_answer read (Ok tt) good) reads;
+  written = subst (λ (r : Result Unit Failed). WritesDisk lba meant mid new r) (same_answer answer result same) writes;
 }
 
 -- the sectors of a list and of one more write
@@ -112,13 +114,19 @@ left_disk_torn_read lba meant old mid new n log log' same left_torn =
     left_disk_torn_uncounted old.writes (write_records lba meant old) (with_disk_log old log) (with_disk_log new log') n new.sectors_read
     (subst (λ (m : DiskMedium). LeftDiskTorn m.writes (write_records lba meant m) (with_disk_log m log) (with_disk_log new log')) same left_torn)
 
+-- the same of a failed write
+pub left_disk_read : (lba : ℕ) (meant : List ℕ) (old mid new : DiskMedium) (n : ℕ) → mid ≡ record old { sectors_read = n }
+    → LeftDisk mid.writes (write_records lba meant mid) mid new → LeftDisk old.writes (write_records lba meant old) old new
+left_disk_read lba meant old mid new n same left =
+    left_disk_uncounted old.writes (write_records lba meant old) old new n new.sectors_read (subst (λ (m : DiskMedium). LeftDisk m.writes (write_records lba meant m) m new) same left)
+
 -- the disk failed in the first sectors of the chosen write, or in the flush after them
-pub left_disk_torn_part : (lba kept : ℕ) (meant : List ℕ) (old new : DiskMedium) (log : List Torn) → kept % 512 ≡ 0 → kept ≤ length meant → length meant % 512 ≡ 0 → lba * 512 + length meant ≤ length old.bytes
-    → LeftDiskTorn old.writes (write_records lba (take kept meant) old) old new → LeftDiskTorn old.writes (write_records lba meant old) (with_disk_log old log) (with_disk_log new log)
-left_disk_torn_part lba kept meant old new log sectors within whole inside left_torn =
-    left_disk_torn_with_log old.writes (write_records lba meant old) old new log
-    (left_disk_torn_front old.writes (write_records lba meant old) (kept / 512) old new
+pub left_disk_part : (lba kept : ℕ) (meant : List ℕ) (old new : DiskMedium) → kept % 512 ≡ 0 → kept ≤ length meant → length meant % 512 ≡ 0 → lba * 512 + length meant ≤ length old.bytes
+    → LeftDisk old.writes (write_records lba (take kept meant) old) old new → LeftDisk old.writes (write_records lba meant old) old new
+left_disk_part lba kept meant old new sectors within whole inside (inl left_torn) =
+    inl (left_disk_torn_front old.writes (write_records lba meant old) (kept / 512) old new
     (subst (λ (own : List Torn). LeftDiskTorn old.writes own old new) (records-front lba kept meant old sectors within whole inside) left_torn))
+left_disk_part lba kept meant old new sectors within whole inside (inr flushed) = inr flushed
 
 none_left : (writes : List Torn) → length writes ≡ 0 → writes ≡ []
 none_left [] none = refl
@@ -169,22 +177,22 @@ reads_disk_failed lba buf medium log n old new failure result failed observed fi
 }
 
 -- a write that passed on from an unarmed fuse
-pub content_passed : {E : Type 0} (lba : ℕ) (meant : List ℕ) (below below' : DiskState) (log : List Torn) (answer : Result Unit E) → WritesDisk lba meant below below' answer → WritesContent lba meant (with_disk_log below.medium log) (with_disk_log below'.medium log) answer
-content_passed lba meant below below' log answer writes = record {
+pub content_passed : {E : Type 0} (lba : ℕ) (meant : List ℕ) (below below' : DiskState) (answer : Result Unit E) → WritesDisk lba meant below below' answer → WritesContent lba meant below.medium below'.medium answer
+content_passed lba meant below below' answer writes = record {
   sectors = writes.sectors;
   told = writes.told;
   pending = writes.pending;
   none_pending = writes.none_pending;
   bytes = writes.bytes;
   writes = writes.writes;
-  torn = λ told. on_ok_weaker answer (ap (λ (t : Logs). t ++ log ∷ [])) (writes.torn told);
-  err = λ told. on_err_weaker answer (left_disk_torn_with_log below.medium.writes (write_records lba meant below.medium) below.medium below'.medium log) (writes.err told);
+  torn = writes.torn;
+  err = writes.err;
 }
 
 -- a write of which the content is known
-pub writes_disk_content : {E : Type 0} (lba : ℕ) (meant : List ℕ) (old new : DiskMedium) (log log' : List Torn) (n : ℕ) (before after : Counters) (answer result : Result Unit E) → WritesContent lba meant (with_disk_log old log) (with_disk_log new log') answer
-    → result ≡ answer → Changed before after (is_err result) → WritesDisk lba meant (disk_state_over old log n before) (disk_state_over new log' n after) result
-writes_disk_content lba meant old new log log' n before after answer result content same changed = record {
+pub writes_disk_content : {E : Type 0} (lba : ℕ) (meant : List ℕ) (old new : DiskMedium) (log : List Torn) (n : ℕ) (before after : Counters) (answer result : Result Unit E) → WritesContent lba meant old new answer
+    → result ≡ answer → Changed before after (is_err result) → WritesDisk lba meant (disk_state_over old log n before) (disk_state_over new log n after) result
+writes_disk_content lba meant old new log n before after answer result content same changed = record {
   counters = changed;
   sectors = content.sectors;
   told = content.told;
@@ -193,15 +201,16 @@ writes_disk_content lba meant old new log log' n before after answer result cont
   none_pending = rw same content.none_pending;
   bytes = λ told. rw same (content.bytes told);
   writes = λ told. rw same (content.writes told);
-  torn = λ told. rw same (content.torn told);
-  err = λ told. rw same (on_err_weaker answer (left_disk_torn_counted old.writes (write_records lba meant old) (with_disk_log old log) (with_disk_log new log') n n) (content.err told));
+  torn = λ told. rw same (on_ok_weaker answer (ap (λ (t : Logs). t ++ log ∷ [])) (content.torn told));
+  err = λ told. rw same (on_err_weaker answer (λ (left : LeftDisk old.writes (write_records lba meant old) old new). left_disk_counted old.writes (write_records lba meant old) (with_disk_log old log) (with_disk_log new log) n n
+      (left_disk_with_log old.writes (write_records lba meant old) old new log left)) (content.err told));
 }
 
 -- a write that the fuse refused or cut short
 pub writes_disk_failed : {E : Type 0} (lba : ℕ) (meant : List ℕ) (old new : DiskMedium) (log log' : List Torn) (n : ℕ) (before after : Counters) (failure : E) (result : Result Unit E) → result ≡ Err failure → Changed before after (is_err result)
-    → new.sectors ≡ old.sectors → new.told ≡ old.told → new.pending ≡ 0 → (IsTrue old.told → LeftDiskTorn old.writes (write_records lba meant old) (with_disk_log old log) (with_disk_log new log'))
+    → new.sectors ≡ old.sectors → new.told ≡ old.told → new.pending ≡ 0 → (IsTrue old.told → LeftDisk old.writes (write_records lba meant old) (with_disk_log old log) (with_disk_log new log'))
     → WritesDisk lba meant (disk_state_over old log n before) (disk_state_over new log' n after) result
-writes_disk_failed lba meant old new log log' n before after failure result failed changed sectors told none left_torn = record {
+writes_disk_failed lba meant old new log log' n before after failure result failed changed sectors told none left = record {
   counters = changed;
   sectors = sectors;
   told = told;
@@ -211,7 +220,7 @@ writes_disk_failed lba meant old new log log' n before after failure result fail
   bytes = λ tells. rw failed tt;
   writes = λ tells. rw failed tt;
   torn = λ tells. rw failed tt;
-  err = λ tells. rw failed (left_disk_torn_counted old.writes (write_records lba meant old) (with_disk_log old log) (with_disk_log new log') n n (left_torn tells));
+  err = λ tells. rw failed (left_disk_counted old.writes (write_records lba meant old) (with_disk_log old log) (with_disk_log new log') n n (left tells));
 }
 
 -- a flush that answered Ok, seen through a fuse
@@ -247,6 +256,6 @@ flushes_failed old new log log' n before after failure result failed changed sec
 }
 
 -- a write that passed on from an unarmed fuse, as the fuse's own clause says it
-pub passes_unarmed : {D : Type 0} {disk : Ghosts D} (stop : FuseState) (lba : ℕ) (meant : List ℕ) (old new : FuseDisk D disk) (result : Result Unit Failed) → stop ≡ Unarmed → WritesDisk lba meant (state_below old) (state_below new) result → new.torn.items ≡ old.torn.items
+pub passes_unarmed : {D : Type 0} {disk : Ghosts D} (stop : FuseState) (lba : ℕ) (meant : List ℕ) (old new : FuseDisk D disk) (result : Result Unit Failed) → stop ≡ Unarmed → WritesDisk lba meant (state_below old) (state_below new) result
     → PassesWrite stop lba meant old new result
-passes_unarmed stop lba meant old new result unarmed written torn = rw unarmed (written, torn)
+passes_unarmed stop lba meant old new result unarmed written = rw unarmed written

@@ -116,3 +116,13 @@ on_ok_at (Err e) h p = absurd (false≢true (sym h))
 pub on_err_at : {T E P : Type 0} (r : Result T E) → is_err r ≡ true → OnErr r P → P
 on_err_at (Ok x) h p = absurd (false≢true h)
 on_err_at (Err e) h p = p
+
+-- what is said at Ok holds of a failure
+pub on_ok_of : {T E : Type 0} (P : Type 0) (r : Result T E) → is_err r ≡ true → OnOk r P
+on_ok_of P (Ok value) failed = absurd (cc)
+on_ok_of P (Err failure) failed = tt
+
+-- what always holds, holds at a failure
+pub on_err_of : {T E P : Type 0} (r : Result T E) → P → OnErr r P
+on_err_of (Ok value) h = tt
+on_err_of (Err failure) h = h

@@ -1,5 +1,5 @@
 -- What a disk is, and what each call does to it.
-use Rattle.std.specs.Prelude.{◌≡◌, ℕ, ◌+◌, ◌*◌, ◌/◌, ◌-◌, ◌^◌, ◌≤◌, min, List, [], ◌∷◌, ◌++◌, length, take, Bool, IsTrue, Result, is_err, OnOk, OnErr}
+use Rattle.std.specs.Prelude.{◌≡◌, ◌⊎◌, ℕ, ◌+◌, ◌*◌, ◌/◌, ◌-◌, ◌^◌, ◌≤◌, min, List, [], ◌∷◌, ◌++◌, length, take, Bool, IsTrue, Result, is_err, OnOk, OnErr}
 use Rattle.board_core.specs.declared.counters.Counters.{Counters}
 use Rattle.board_core.specs.declared.torn.Torn.{Torn}
 use Rattle.board_core.specs.Counters.{Observed, Changed}
@@ -74,6 +74,16 @@ pub record LeftDiskTorn (pending own : List Torn) (old new : DiskMedium) : Type 
   pub noted : AreRecordsOf (pending ++ take count own) (added old.torn new.torn)
   pub writes_end : new.writes ≡ []
 
+-- All writes so far last, no byte changed and nothing was noted.
+pub record Flushed (old new : DiskMedium) : Type 0 where
+  pub bytes : new.bytes ≡ old.bytes
+  pub writes : new.writes ≡ []
+  pub torn : new.torn ≡ old.torn
+
+-- What a failed write leaves: torn sectors, or, where it was not made, what a flush leaves that answered Ok.
+abbrev pub LeftDisk : List Torn → List Torn → DiskMedium → DiskMedium → Type 0
+LeftDisk pending own old new = LeftDiskTorn pending own old new ⊎ Flushed old new
+
 -- ---- the calls
 
 -- The call to read sectors. It changes only the number of sectors read.
@@ -104,13 +114,7 @@ pub record WritesDisk {E : Type 0} (lba : ℕ) (meant : List ℕ) (old new : Dis
   pub bytes : IsTrue old.medium.told → OnOk result (new.medium.bytes ≡ spliced old.medium.bytes (lba * 512) meant)
   pub writes : IsTrue old.medium.told → OnOk result (new.medium.writes ≡ old.medium.writes ++ write_records lba meant old.medium)
   pub torn : IsTrue old.medium.told → OnOk result (new.medium.torn ≡ old.medium.torn)
-  pub err : IsTrue old.medium.told → OnErr result (LeftDiskTorn old.medium.writes (write_records lba meant old.medium) old.medium new.medium)
-
--- A flush that answered Ok: all writes so far last.
-pub record Flushed (old new : DiskMedium) : Type 0 where
-  pub bytes : new.bytes ≡ old.bytes
-  pub writes : new.writes ≡ []
-  pub torn : new.torn ≡ old.torn
+  pub err : IsTrue old.medium.told → OnErr result (LeftDisk old.medium.writes (write_records lba meant old.medium) old.medium new.medium)
 
 -- The call to flush.
 pub record Flushes {E : Type 0} (old new : DiskState) (result : Result Unit E) : Type 0 where
@@ -121,4 +125,5 @@ pub record Flushes {E : Type 0} (old new : DiskState) (result : Result Unit E) :
   -- also where it fails
   pub none_pending : new.medium.pending ≡ 0
   pub ok : IsTrue old.medium.told → OnOk result (Flushed old.medium new.medium)
+  -- a failed flush notes each sector that was pending
   pub err : IsTrue old.medium.told → OnErr result (LeftDiskTorn old.medium.writes [] old.medium new.medium)

@@ -9,7 +9,7 @@ use Rattle.board_core.specs.declared.disk.Disk.{Ghosts}
 use Rattle.board_core.specs.declared.fuse_disk.FuseDisk.{FuseDisk}
 use Rattle.board_core.specs.Counters.{turn_of, stop_after}
 use Rattle.board_core.specs.Disk.{DiskState, ReadsDisk, WritesDisk, Flushes, advanced}
-use Rattle.board_core.specs.FuseDiskParts.{with_disk_log, FailedBelowDisk, CutsDiskWrite, CutsFlush, WritesAfterRead}
+use Rattle.board_core.specs.FuseDiskParts.{with_disk_log, CutsDiskWrite, CutsFlush, FlushesAfterRead, WritesAfterRead}
 
 -- the state of the disk below
 abbrev pub state_below : {D : Type 0} {disk : Ghosts D} → FuseDisk D disk → DiskState
@@ -41,11 +41,12 @@ pub record FuseReadsDisk {D : Type 0} {disk : Ghosts D} (lba : ℕ) (buf : List 
   pub counted : OnOk result (new.sectors_read ≡ advanced old.sectors_read (length buf / 512))
   pub uncounted : OnErr result (new.sectors_read ≡ old.sectors_read)
 
--- a write that passed on: an armed fuse reads the old bytes first, and makes no write where that read fails
+-- A write that passed on. An armed fuse reads the old bytes first. Where that read fails it makes no write, and flushes
+-- the disk below.
 abbrev pub PassesWrite : {D : Type 0} {disk : Ghosts D} → FuseState → ℕ → List ℕ → FuseDisk D disk → FuseDisk D disk → Result Unit Failed → Type 0
-PassesWrite Unarmed lba meant old new result = WritesDisk lba meant (state_below old) (state_below new) result × (new.torn.items ≡ old.torn.items)
+PassesWrite Unarmed lba meant old new result = WritesDisk lba meant (state_below old) (state_below new) result
 PassesWrite (Armed left keep) lba meant old new result =
-    (IsErr result × FailedBelowDisk (state_below old) (state_below new) old.torn.items new.torn.items) ⊎ WritesAfterRead lba meant (state_below old) (state_below new) result old.torn.items new.torn.items
+    FlushesAfterRead lba meant (state_below old) (state_below new) result ⊎ WritesAfterRead lba meant (state_below old) (state_below new) result
 PassesWrite Dead lba meant old new result = ⊥
 
 -- A write, on a fuse.
@@ -54,7 +55,7 @@ pub record FuseWritesDisk {D : Type 0} {disk : Ghosts D} (lba : ℕ) (meant : Li
   pub stop : new.counters.stop ≡ stop_after old.counters.stop
   -- a dead fuse refuses the write
   pub refused : turn_of old.counters.stop ≡ Refuse → IsErr result × IsUntouchedDisk old new
-  pub passed : turn_of old.counters.stop ≡ Pass → PassesWrite old.counters.stop lba meant old new result
+  pub passed : turn_of old.counters.stop ≡ Pass → PassesWrite old.counters.stop lba meant old new result × (new.torn.items ≡ old.torn.items)
   -- the chosen write is cut short, and fails
   pub chosen : (keep : ℕ) → turn_of old.counters.stop ≡ Stop keep → IsErr result × CutsDiskWrite keep lba meant (state_below old) (state_below new) old.torn.items new.torn.items
   pub sectors_read : new.sectors_read ≡ old.sectors_read

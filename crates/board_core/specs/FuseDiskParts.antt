@@ -1,12 +1,12 @@
 -- What a fuse over a disk keeps of the disk below, and what each part of a call makes of it. This file names no fuse, so
 -- that the fuse can cite it.
-use Rattle.std.specs.Prelude.{◌≡◌, ◌⊎◌, List, ℕ, ◌+◌, ◌*◌, ◌/◌, ◌≤◌, min, [], ◌∷◌, ◌++◌, length, take, drop, All, IsTrue, OnOk, OnErr, Result, Ok}
+use Rattle.std.specs.Prelude.{◌≡◌, ◌⊎◌, List, ℕ, ◌+◌, ◌*◌, ◌/◌, ◌≤◌, min, [], ◌∷◌, ◌++◌, length, take, drop, All, IsTrue, IsErr, OnOk, OnErr, Result, Ok}
 use Rattle.board_core.specs.declared.device.Failed.{Failed}
 use Rattle.board_core.specs.declared.torn.Torn.{Torn}
 use Rattle.board_core.specs.Counters.{Rose}
 use Rattle.board_core.specs.Torn.{torn_records}
 use Rattle.board_core.specs.Flash.{range, spliced}
-use Rattle.board_core.specs.Disk.{DiskMedium, DiskState, ReadsDisk, WritesDisk, LeftDiskTorn, IsSectorOf, overlaid, write_records}
+use Rattle.board_core.specs.Disk.{DiskMedium, DiskState, ReadsDisk, WritesDisk, Flushes, LeftDisk, IsSectorOf, overlaid, write_records}
 
 -- what a disk holds, with one more log of torn sectors
 abbrev pub with_disk_log : DiskMedium → List Torn → DiskMedium
@@ -22,10 +22,10 @@ pub record Mirrors (medium : DiskMedium) (writes : List Torn) : Type 0 where
   -- and their bytes stand in it, so that putting them over once more changes nothing
   pub stand : IsTrue medium.told → overlaid medium.bytes writes ≡ medium.bytes
 
--- the disk below failed in the call, and the fuse noted the pending sectors unless the disk did
+-- the disk below failed in the chosen call, and the fuse notes nothing
 pub record FailedBelowDisk (old new : DiskState) (log log' : List Torn) : Type 0 where
   pub cause : Rose old.counters.faults new.counters.faults
-  pub noted : (log' ≡ log) ⊎ (IsTrue old.medium.told → log' ≡ log ++ old.medium.writes)
+  pub unnoted : log' ≡ log
 
 -- What a write makes of the content of a disk.
 pub record WritesContent {E : Type 0} (lba : ℕ) (meant : List ℕ) (old new : DiskMedium) (result : Result Unit E) : Type 0 where
@@ -36,15 +36,26 @@ pub record WritesContent {E : Type 0} (lba : ℕ) (meant : List ℕ) (old new : 
   pub bytes : IsTrue old.told → OnOk result (new.bytes ≡ spliced old.bytes (lba * 512) meant)
   pub writes : IsTrue old.told → OnOk result (new.writes ≡ old.writes ++ write_records lba meant old)
   pub torn : IsTrue old.told → OnOk result (new.torn ≡ old.torn)
-  pub err : IsTrue old.told → OnErr result (LeftDiskTorn old.writes (write_records lba meant old) old new)
+  pub err : IsTrue old.told → OnErr result (LeftDisk old.writes (write_records lba meant old) old new)
+
+-- A write that an armed fuse did not make: the disk below failed in the read of the old bytes, and was flushed then.
+pub record FlushesAfterRead (lba : ℕ) (meant : List ℕ) (old new : DiskState) (result : Result Unit Failed) : Type 0 where
+  pub failed : IsErr result
+  pub was : List ℕ
+  pub fits : length was ≡ length meant
+  pub mid : DiskState
+  pub read : ReadsDisk lba was old mid result
+  -- what the flush answered
+  pub answer : Result Unit Failed
+  pub flushed : Flushes mid new answer
 
 -- A write of an armed fuse: the disk below read the old bytes, and then it did and answered what its write does.
-pub record WritesAfterRead (lba : ℕ) (meant : List ℕ) (old new : DiskState) (result : Result Unit Failed) (log log' : List Torn) : Type 0 where
+pub record WritesAfterRead (lba : ℕ) (meant : List ℕ) (old new : DiskState) (result : Result Unit Failed) : Type 0 where
   pub was : List ℕ
+  pub fits : length was ≡ length meant
   pub mid : DiskState
   pub read : ReadsDisk {E = Failed} lba was old mid (Ok tt)
   pub written : WritesDisk lba meant mid new result
-  pub unnoted : log' ≡ log
 
 -- These bytes were written from a sector, and all pending writes last.
 pub record WroteFront (lba : ℕ) (front : List ℕ) (old new : DiskMedium) : Type 0 where

@@ -10,7 +10,8 @@ use crate::device::Failed;
 ///
 /// Each call that answers `Failed` raises the count of faults, and a failed write or flush raises the number of failed
 /// changes too. A failed change may leave any bytes in each range that was pending and in a front of its own. It notes
-/// them as torn, a record for each sector, and nothing is pending after it.
+/// them as torn, a record for each sector, and nothing is pending after it. A failed write may also leave no byte changed
+/// and nothing noted, and then all that was pending lasts.
 pub trait Disk {
     ghost state: { Self → DiskState };
 
@@ -35,7 +36,8 @@ pub trait Disk {
     /// Writes whole sectors from `lba`, of which at most 64 are then pending.
     ///
     /// `Failed`: any bytes may stand in each range that was pending and in the first sectors of this one. All are noted
-    /// as torn, and nothing is pending.
+    /// as torn, and nothing is pending. Or this write was not made, and all earlier ones last: no byte changed, nothing is
+    /// noted, and nothing is pending.
     fn write(&mut self, lba: u64, bytes: &[u8]) -> Result<(), Failed>
         requires whole { length bytes.now % 512 ≡ 0 }
         requires inside { lba + length bytes.now / 512 ≤ (state self.old).medium.sectors }

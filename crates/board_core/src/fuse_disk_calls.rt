@@ -9,7 +9,7 @@ use crate::counters::{Counters, FuseState, Turn, raise};
 use crate::device::Failed;
 use crate::disk::Disk;
 use crate::fuse_disk::FuseDisk;
-use crate::fuse_disk_parts::{cut_write, settle, write_after_read};
+use crate::fuse_disk_parts::{cut_write, flush_below, settle, write_after_read};
 use std::alloc::{AllocError, Global};
 
 impl<D: Disk> FuseDisk<D> {
@@ -48,8 +48,8 @@ impl<D: Disk> FuseDisk<D> {
     /// flush happens whatever `keep` is. The chosen call answers `Failed`, and then the fuse is dead. A second call
     /// replaces the first. A dead fuse stays as it is.
     ///
-    /// It takes its memory first, for 64 torn records a call up to the chosen one and for 64 pending sectors: after
-    /// `AllocError` the fuse is as before.
+    /// It takes its memory first, for the torn records of one stop, of which there are at most 64, and for 64 pending
+    /// sectors. `AllocError`: the fuse is as before.
     pub fn arm(&mut self, call: u32, keep: u32) -> Result<(), AllocError>
         requires call { 1 ≤ call }
         requires settled { (fuse_disk_state self.old).medium.pending ≡ 0 }
@@ -63,9 +63,9 @@ impl<D: Disk> FuseDisk<D> {
         if let FuseState::Dead = self.counters.stop {
             return Ok(());
         }
-        self.torn.reserve(64 * call as usize)?;
-        self.writes.reserve(64)?;
         self.writes.clear();
+        self.torn.reserve(64)?;
+        self.writes.reserve(64)?;
         self.counters.stop = FuseState::Armed { left: call, keep };
         self.counters.settings = raise(self.counters.settings);
         Ok(())
@@ -133,7 +133,6 @@ impl<D: Disk> Disk for FuseDisk<D> {
                     let mut was = [0; 32768];
                     let answer = write_after_read(
                         &mut self.inner,
-                        &mut self.torn,
                         &mut self.writes,
                         lba,
                         bytes,
@@ -170,8 +169,7 @@ impl<D: Disk> Disk for FuseDisk<D> {
         match self.counters.begin_change() {
             Turn::Refuse => self.counters.count_change(Err(Failed)),
             Turn::Pass => {
-                let answer = self.inner.flush();
-                self.writes.clear();
+                let answer = flush_below(&mut self.inner, &mut self.writes);
                 self.counters.count_change(answer)
             }
             Turn::Stop { keep: _ } => {

@@ -1,14 +1,24 @@
 // The parts of the changing calls of an armed fuse over a disk, over the disk below, the fuse's log and its list of the
 // pending writes.
-ghost use Rattle.std.specs.Prelude.{◌≡◌, List, ◌+◌, ◌*◌, ◌/◌, ◌%◌, ◌≤◌, [], length, IsTrue, OnOk, OnErr, IsErr, ◌⊎◌, vec_len, vec_capacity};
-ghost use Rattle.board_core.specs.declared.torn.Torn.{Torn as TornRecord};
+ghost use Rattle.std.specs.Prelude.{◌≡◌, ◌+◌, ◌*◌, ◌/◌, ◌%◌, ◌≤◌, [], length, IsTrue, OnOk, OnErr, IsErr, ◌⊎◌, vec_len, vec_capacity};
 ghost use Rattle.board_core.specs.Counters.{Rose};
-ghost use Rattle.board_core.specs.Disk.{LeftDiskTorn, write_records};
-ghost use Rattle.board_core.specs.FuseDiskParts.{with_disk_log, Mirrors, FailedBelowDisk, WritesContent, WritesAfterRead, WroteFront, CutsDiskWrite, CutsFlush};
+ghost use Rattle.board_core.specs.Disk.{Flushes, LeftDiskTorn, LeftDisk, write_records};
+ghost use Rattle.board_core.specs.FuseDiskParts.{with_disk_log, Mirrors, WritesContent, FlushesAfterRead, WritesAfterRead, WroteFront, CutsDiskWrite, CutsFlush};
 
 use crate::device::Failed;
 use crate::disk::Disk;
 use crate::torn::{Torn, note};
+
+/// Flushes the disk, and lists no sector as pending any more.
+pub fn flush_below<D: Disk>(inner: &mut D, writes: &mut Vec<Torn>) -> Result<(), Failed>
+    ensures meets { Flushes (D.state inner.old) (D.state inner.new) result }
+    ensures none_listed { writes.new.items ≡ [] }
+    ensures capacity { vec_capacity writes.old ≤ vec_capacity writes.new }
+{
+    let answer = inner.flush();
+    writes.clear();
+    answer
+}
 
 /// Flushes the disk, and notes each pending sector with the bytes that it was meant to hold. Where the disk fails, its own
 /// notes stand alone. Nothing is pending after it.
@@ -17,16 +27,11 @@ pub fn settle<D: Disk>(inner: &mut D, torn: &mut Vec<Torn>, writes: &mut Vec<Tor
     requires room { vec_len torn.old + length writes.old.items ≤ vec_capacity torn.old }
     ensures sectors { (D.state inner.new).medium.sectors ≡ (D.state inner.old).medium.sectors }
     ensures told { (D.state inner.new).medium.told ≡ (D.state inner.old).medium.told }
-    ensures later { (D.state inner.old).counters.faults ≤ (D.state inner.new).counters.faults }
     ensures none_pending { (D.state inner.new).medium.pending ≡ 0 }
-    ensures none_listed { writes.new.items ≡ [] }
-    ensures capacities { (vec_capacity torn.old ≤ vec_capacity torn.new) × (vec_capacity writes.old ≤ vec_capacity writes.new) }
-    ensures noted { vec_len torn.new ≤ vec_len torn.old + length writes.old.items }
-    ensures left_torn { IsTrue (D.state inner.old).medium.told → (own : List TornRecord) → LeftDiskTorn (D.state inner.old).medium.writes own (with_disk_log (D.state inner.old).medium torn.old.items) (with_disk_log (D.state inner.new).medium torn.new.items) }
+    ensures left_torn { IsTrue (D.state inner.old).medium.told → LeftDiskTorn (D.state inner.old).medium.writes [] (with_disk_log (D.state inner.old).medium torn.old.items) (with_disk_log (D.state inner.new).medium torn.new.items) }
     ensures cut { CutsFlush (D.state inner.old) (D.state inner.new) torn.old.items torn.new.items }
 {
     if inner.flush().is_err() {
-        writes.clear();
         return;
     }
     let _ = torn.append(writes);
@@ -34,11 +39,10 @@ pub fn settle<D: Disk>(inner: &mut D, torn: &mut Vec<Torn>, writes: &mut Vec<Tor
 
 /// Reads the old bytes of the range, and then writes it and lists its sectors as pending. `was` is room for the old bytes.
 ///
-/// `Failed`: the disk failed. Nothing is pending. Where it failed in the read, no write was made, and each pending sector
-/// is noted.
+/// `Failed`: the disk failed, and nothing is pending. Where it failed in the read, no write was made, and the disk was
+/// flushed.
 pub fn write_after_read<D: Disk>(
     inner: &mut D,
-    torn: &mut Vec<Torn>,
     writes: &mut Vec<Torn>,
     lba: u64,
     bytes: &[u8],
@@ -48,19 +52,18 @@ pub fn write_after_read<D: Disk>(
     requires inside { lba + length bytes.now / 512 ≤ (D.state inner.old).medium.sectors }
     requires few { (D.state inner.old).medium.pending + length bytes.now / 512 ≤ 64 }
     requires mirrors { Mirrors (D.state inner.old).medium writes.old.items }
-    requires room { vec_len torn.old + 64 ≤ vec_capacity torn.old }
     requires held { 64 ≤ vec_capacity writes.old }
     requires was { length was.old ≡ length bytes.now }
     ensures mirrors { Mirrors (D.state inner.new).medium writes.new.items }
-    ensures capacities { (vec_capacity torn.old ≤ vec_capacity torn.new) × (64 ≤ vec_capacity writes.new) }
-    ensures noted { vec_len torn.new ≤ vec_len torn.old + 64 }
-    ensures content { WritesContent lba bytes.now (with_disk_log (D.state inner.old).medium torn.old.items) (with_disk_log (D.state inner.new).medium torn.new.items) result }
-    ensures fused { (IsErr result × FailedBelowDisk (D.state inner.old) (D.state inner.new) torn.old.items torn.new.items) ⊎ WritesAfterRead lba bytes.now (D.state inner.old) (D.state inner.new) result torn.old.items torn.new.items }
+    ensures held { 64 ≤ vec_capacity writes.new }
+    ensures content { WritesContent lba bytes.now (D.state inner.old).medium (D.state inner.new).medium result }
+    ensures fused { FlushesAfterRead lba bytes.now (D.state inner.old) (D.state inner.new) result ⊎ WritesAfterRead lba bytes.now (D.state inner.old) (D.state inner.new) result }
 {
     let _sectors = inner.sectors();
-    if inner.read(lba, was).is_err() {
-        settle(inner, torn, writes);
-        return Err(Failed);
+    let answer = inner.read(lba, was);
+    if answer.is_err() {
+        let _ = flush_below(inner, writes);
+        return answer;
     }
     if inner.write(lba, bytes).is_err() {
         writes.clear();
@@ -83,7 +86,7 @@ fn write_and_flush<D: Disk>(inner: &mut D, lba: u64, front: &[u8]) -> Result<(),
     ensures later { (D.state inner.old).counters.faults ≤ (D.state inner.new).counters.faults }
     ensures cause { IsErr result → Rose (D.state inner.old).counters.faults (D.state inner.new).counters.faults }
     ensures ok { IsTrue (D.state inner.old).medium.told → OnOk result (WroteFront lba front.now (D.state inner.old).medium (D.state inner.new).medium) }
-    ensures err { IsTrue (D.state inner.old).medium.told → OnErr result (LeftDiskTorn (D.state inner.old).medium.writes (write_records lba front.now (D.state inner.old).medium) (D.state inner.old).medium (D.state inner.new).medium) }
+    ensures err { IsTrue (D.state inner.old).medium.told → OnErr result (LeftDisk (D.state inner.old).medium.writes (write_records lba front.now (D.state inner.old).medium) (D.state inner.old).medium (D.state inner.new).medium) }
 {
     if front.is_empty() {
         return inner.flush();
@@ -94,7 +97,8 @@ fn write_and_flush<D: Disk>(inner: &mut D, lba: u64, front: &[u8]) -> Result<(),
 
 /// The chosen write: it keeps its first `keep / 512` sectors, and all pending writes last. Each pending sector and the
 /// whole range are noted. `was` and `left` are room for the bytes of the range before the call and after it. Where the disk
-/// fails, its own notes stand, or those of the pending sectors. Nothing is pending after it.
+/// fails, its own notes stand alone; where it fails in the read of the old bytes, no write is made, and it is flushed.
+/// Nothing is pending after it.
 pub fn cut_write<D: Disk>(
     inner: &mut D,
     torn: &mut Vec<Torn>,
@@ -115,12 +119,12 @@ pub fn cut_write<D: Disk>(
     ensures sectors { (D.state inner.new).medium.sectors ≡ (D.state inner.old).medium.sectors }
     ensures told { (D.state inner.new).medium.told ≡ (D.state inner.old).medium.told }
     ensures none_pending { (D.state inner.new).medium.pending ≡ 0 }
-    ensures left_torn { IsTrue (D.state inner.old).medium.told → LeftDiskTorn (D.state inner.old).medium.writes (write_records lba bytes.now (D.state inner.old).medium) (with_disk_log (D.state inner.old).medium torn.old.items) (with_disk_log (D.state inner.new).medium torn.new.items) }
+    ensures left_disk { IsTrue (D.state inner.old).medium.told → LeftDisk (D.state inner.old).medium.writes (write_records lba bytes.now (D.state inner.old).medium) (with_disk_log (D.state inner.old).medium torn.old.items) (with_disk_log (D.state inner.new).medium torn.new.items) }
     ensures cut { CutsDiskWrite keep lba bytes.now (D.state inner.old) (D.state inner.new) torn.old.items torn.new.items }
 {
     let _sectors = inner.sectors();
     if inner.read(lba, was).is_err() {
-        settle(inner, torn, writes);
+        let _ = flush_below(inner, writes);
         return;
     }
     let kept = bytes.len().min(keep as usize / 512 * 512);

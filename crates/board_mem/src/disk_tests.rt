@@ -1,5 +1,5 @@
 // What a disk in memory and a fuse over one leave at a stop, over three pending writes that overlap.
-ghost use Rattle.std.specs.Prelude.{◌≡◌, ◌≤◌, IfOk};
+ghost use Rattle.std.specs.Prelude.{◌≡◌, IfOk};
 ghost use Rattle.board_mem.specs.MemDisk.{mem_disk_state};
 
 use super::*;
@@ -99,5 +99,43 @@ fn a_fuse_stops_a_disk(rt: HostRuntime) -> Result<(), Fail> {
         fuse.revive();
         assert_eq!(rt; first_bytes(&mut fuse), Ok(left));
     }
+    Ok(())
+}
+
+// Writes sector 0, and then 1 and 2.
+fn write_twice<D: Disk>(disk: &mut D, byte: u8) -> Result<(), Failed>
+    requires sectors { (D.state disk.old).medium.sectors ≡ 4 }
+    requires settled { (D.state disk.old).medium.pending ≡ 0 }
+    ensures { (D.state disk.new).medium.sectors ≡ 4 }
+{
+    disk.write(0, &[byte; 512])?;
+    disk.write(1, &[byte; 1024])
+}
+
+#[test]
+fn a_fuse_can_be_armed_far_ahead(rt: HostRuntime) -> Result<(), Fail> {
+    // The second write fails, at its read of the old bytes: the calls below are a read, a write, a read and a flush.
+    let fails = [3, 7, 11].map(|call| FailAt {
+        call,
+        remains: Remains::Fill(9),
+    });
+    let mut fuse = FuseDisk::new(rt.alloc(), make_disk(rt.alloc(), &fails)?);
+    // No memory holds 64 records for each of so many calls.
+    fuse.arm(u32::MAX, 0)?;
+    for byte in 1..=3 {
+        assert!(rt; fuse.sectors() == 4 && fuse.pending() == 0);
+        assert_eq!(rt; write_twice(&mut fuse, byte), Err(Failed));
+        assert!(rt; fuse.inner().torn.is_empty());
+        let left = u32::MAX - 2 * byte as u32;
+        assert_eq!(rt; fuse.state(), FuseState::Armed { left, keep: 0 });
+    }
+    assert!(rt; fuse.sectors() == 4 && fuse.pending() == 0);
+    assert_eq!(rt; first_bytes(&mut fuse), Ok([3, 0x11, 0x12, 0x13]));
+    assert!(rt; fuse.sectors() == 4 && fuse.pending() == 0);
+    fuse.arm(2, 512)?;
+    assert_eq!(rt; write_twice(&mut fuse, 4), Err(Failed));
+    fuse.revive();
+    assert!(rt; fuse.sectors() == 4);
+    assert_eq!(rt; first_bytes(&mut fuse), Ok([4, 4, 0x12, 0x13]));
     Ok(())
 }

@@ -15,6 +15,7 @@ mod mem_source;
 mod mem_source_calls;
 mod mem_tpm;
 mod mem_tpm_calls;
+mod ranges;
 mod table_hook;
 mod table_hook_calls;
 

@@ -1,7 +1,6 @@
 // What a disk in memory does.
 ghost use Rattle.std.specs.Prelude.{◌≡◌, [], ◌∷◌, ◌+◌, ◌*◌, ◌/◌, ◌%◌, ◌≤◌, ◌++◌, length, map, All, IfOk, IfSome, OnErr, is_err, vec_len, vec_capacity, refl};
 ghost use Rattle.board_core.specs.Counters.{plain_counters};
-ghost use Rattle.board_core.specs.Flash.{spliced};
 ghost use Rattle.board_core.specs.Disk.{ReadsDisk, WritesDisk, Flushes, IsSectorOf, overlaid, write_records};
 ghost use Rattle.board_mem.specs.Fails.{next_failure, observed_counters, changed_counters, FollowsPlan};
 ghost use Rattle.board_mem.specs.Remains.{record_left};
@@ -9,6 +8,7 @@ ghost use Rattle.board_mem.specs.MemDisk.{mem_disk_state, mem_disk_plan, mem_dis
 
 use crate::fails::{FailAt, Remains, Schedule, leave};
 use crate::mem_disk::MemDisk;
+use crate::ranges::replace;
 use board_core::{Disk, Failed, Torn, note, raise};
 use std::alloc::{AllocError, Global};
 
@@ -47,14 +47,6 @@ impl MemDisk {
     {
         self.sectors_read
     }
-}
-
-fn replace(content: &mut Vec<u8>, at: usize, bytes: &[u8])
-    requires { at + length bytes.now ≤ length content.old.items }
-    ensures content { content.new.items ≡ spliced content.old.items at bytes.now }
-    ensures same_length { length content.new.items ≡ length content.old.items }
-{
-    content[at..at + bytes.len()].copy_from_slice(bytes);
 }
 
 // Leaves the sector of a write torn, and notes it.

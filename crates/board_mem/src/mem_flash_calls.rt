@@ -8,6 +8,7 @@ ghost use Rattle.board_mem.specs.MemFlash.{mem_flash_state, mem_flash_plan, mem_
 
 use crate::fails::{FailAt, Remains, Schedule, leave};
 use crate::mem_flash::MemFlash;
+use crate::ranges::replace;
 use board_core::{Failed, Flash, Torn, make_erased_page, note, raise};
 use std::alloc::{AllocError, Global};
 
@@ -30,13 +31,6 @@ impl MemFlash {
             torn: Vec::with_capacity(alloc, 8 * fails.len())?,
         })
     }
-}
-
-fn put(content: &mut [u8], at: usize, bytes: &[u8])
-    requires { at + length bytes.now ≤ length content.old }
-    ensures { content.new ≡ spliced content.old at bytes.now }
-{
-    content[at..at + bytes.len()].copy_from_slice(bytes);
 }
 
 // Leaves a range torn, and notes it. The last two are room for a range.
@@ -63,7 +57,7 @@ fn tear(
     was.copy_from_slice(&content[at..at + meant.len()]);
     leave(remains, was, meant, left);
     note(torn, at as u64, was, meant, left);
-    put(content, at, left);
+    replace(content, at, left);
 }
 
 impl Flash for MemFlash {
@@ -104,7 +98,7 @@ impl Flash for MemFlash {
     {
         match self.schedule.next() {
             None => {
-                put(&mut self.bytes, at as usize, bytes);
+                replace(&mut self.bytes, at as usize, bytes);
                 Ok(())
             }
             Some(remains) => {
@@ -139,7 +133,7 @@ impl Flash for MemFlash {
         let blank = make_erased_page();
         match self.schedule.next() {
             None => {
-                put(&mut self.bytes, at, &blank);
+                replace(&mut self.bytes, at, &blank);
                 Ok(())
             }
             Some(remains) => {

@@ -19,12 +19,12 @@ pub returns-in-Pass-clause-meets : goal.returns-in-Pass-clause-meets
 returns-in-Pass-clause-meets g c =
     let turn = sym c.begin_change.ensures.turn ∙ c.in-Pass.is in
     let changed = passed_change c.args.self.now.counters c.begin_change.new.self c.count_change-in-Pass.new.self (is_err c.count_change-in-Pass.result) turn c.begin_change.ensures.after c.count_change-in-Pass.ensures.counted in
-    flushes_passed (g.D.Disk.state c.args.self.now.inner) (g.D.Disk.state c.flush-answer.new.self) c.args.self.now.torn.items c.args.self.now.sectors_read c.args.self.now.counters c.count_change-in-Pass.new.self
-    c.flush-answer.result c.count_change-in-Pass.result c.flush-answer.ensures.meets c.count_change-in-Pass.ensures.same changed
+    flushes_passed (g.D.Disk.state c.args.self.now.inner) (g.D.Disk.state c.flush_below-answer.new.inner) c.args.self.now.torn.items c.args.self.now.sectors_read c.args.self.now.counters c.count_change-in-Pass.new.self
+    c.flush_below-answer.result c.count_change-in-Pass.result c.flush_below-answer.ensures.meets c.count_change-in-Pass.ensures.same changed
 
 pub returns-in-Stop-clause-meets : goal.returns-in-Stop-clause-meets
 returns-in-Stop-clause-meets g c =
     let changed = failed_change c.args.self.now.counters c.begin_change.new.self c.count_change-in-Stop.new.self _ c.count_change-in-Stop.result c.begin_change.ensures.after c.count_change-in-Stop.ensures.same c.count_change-in-Stop.ensures.counted in
     flushes_failed (g.D.Disk.state c.args.self.now.inner).medium (g.D.Disk.state c.settle.new.inner).medium c.args.self.now.torn.items c.settle.new.torn.items c.args.self.now.sectors_read
     c.args.self.now.counters c.count_change-in-Stop.new.self _ c.count_change-in-Stop.result
-    c.count_change-in-Stop.ensures.same changed c.settle.ensures.sectors c.settle.ensures.told c.settle.ensures.none_pending (λ told. c.settle.ensures.left_torn told [])
+    c.count_change-in-Stop.ensures.same changed c.settle.ensures.sectors c.settle.ensures.told c.settle.ensures.none_pending c.settle.ensures.left_torn

@@ -1,11 +1,10 @@
 -- A write on a fuse meets the trait, whether it is refused, passes on or is the chosen one.
-use Rattle.std.proofs.Common.{Result, refl, is_err, ◌∙◌, sym, ap, subst}
+use Rattle.std.proofs.Common.{Result, inr, refl, is_err, ◌∙◌, sym, ap, subst}
 use Rattle.board_core.specs.declared.device.Failed.{Failed}
 use Rattle.board_core.specs.declared.counters.Counters.{Counters}
-use Rattle.board_core.specs.Disk.{WritesDisk, write_records}
+use Rattle.board_core.specs.Disk.{WritesDisk}
 use Rattle.board_core.proofs.Stops.{refused_dead, unarmed_passes}
 use Rattle.board_core.proofs.FuseLemmas.{passed_change, failed_change}
-use Rattle.board_core.proofs.DiskTorn.{left_disk_torn_refused}
 use Rattle.board_core.proofs.FuseDiskLemmas.{content_passed, passes_unarmed, writes_disk_content, writes_disk_failed, settled_writes}
 use Rattle.board_core.proofs.fuse_disk_calls.FuseDiskDisk.write.Goals as goal
 
@@ -16,7 +15,15 @@ returns-in-Refuse-clause-meets g c =
     let changed = failed_change fuse.counters c.begin_change.new.self c.count_change.new.self _ c.count_change.result c.begin_change.ensures.after c.count_change.ensures.same c.count_change.ensures.counted in
     let none = fuse.settled (refused_dead fuse.counters.stop (sym c.begin_change.ensures.turn ∙ c.in-Refuse.is)) in
     writes_disk_failed c.args.lba c.args.bytes.now medium medium fuse.torn.items fuse.torn.items fuse.sectors_read fuse.counters c.count_change.new.self _ c.count_change.result c.count_change.ensures.same changed refl refl none
-    (λ told. left_disk_torn_refused (write_records c.args.lba c.args.bytes.now medium) medium fuse.torn.items (settled_writes medium none (g.met.D.Disk.told_pending fuse.inner) told))
+    (λ told. inr (record { bytes = refl; writes = settled_writes medium none (g.met.D.Disk.told_pending fuse.inner) told; torn = refl }))
+
+pub returns-in-Armed-clause-meets : goal.returns-in-Armed-clause-meets
+returns-in-Armed-clause-meets g c =
+    let fuse = c.args.self.now in
+    let turn = sym c.begin_change.ensures.turn ∙ c.in-Pass.is in
+    let changed = passed_change fuse.counters c.begin_change.new.self c.count_change-in-Armed.new.self (is_err c.count_change-in-Armed.result) turn c.begin_change.ensures.after c.count_change-in-Armed.ensures.counted in
+    writes_disk_content c.args.lba c.args.bytes.now (g.D.Disk.state fuse.inner).medium (g.D.Disk.state c.write_after_read-answer.new.inner).medium fuse.torn.items fuse.sectors_read fuse.counters c.count_change-in-Armed.new.self
+    c.write_after_read-answer.result c.count_change-in-Armed.result c.write_after_read-answer.ensures.content c.count_change-in-Armed.ensures.same changed
 
 pub returns-in_default-clause-meets : goal.returns-in_default-clause-meets
 returns-in_default-clause-meets g c =
@@ -25,8 +32,8 @@ returns-in_default-clause-meets g c =
     let below' = g.D.Disk.state c.write-answer.new.self in
     let turn = sym c.begin_change.ensures.turn ∙ c.in-Pass.is in
     let changed = passed_change fuse.counters c.begin_change.new.self c.count_change-in-Pass.new.self (is_err c.count_change-in-Pass.result) turn c.begin_change.ensures.after c.count_change-in-Pass.ensures.counted in
-    writes_disk_content c.args.lba c.args.bytes.now below.medium below'.medium fuse.torn.items fuse.torn.items fuse.sectors_read fuse.counters c.count_change-in-Pass.new.self c.write-answer.result c.count_change-in-Pass.result
-    (content_passed c.args.lba c.args.bytes.now below below' fuse.torn.items c.write-answer.result c.write-answer.ensures.meets) c.count_change-in-Pass.ensures.same changed
+    writes_disk_content c.args.lba c.args.bytes.now below.medium below'.medium fuse.torn.items fuse.sectors_read fuse.counters c.count_change-in-Pass.new.self c.write-answer.result c.count_change-in-Pass.result
+    (content_passed c.args.lba c.args.bytes.now below below' c.write-answer.result c.write-answer.ensures.meets) c.count_change-in-Pass.ensures.same changed
 
 pub returns-in_default-clause-fused : goal.returns-in_default-clause-fused
 returns-in_default-clause-fused g c =
@@ -38,7 +45,7 @@ returns-in_default-clause-fused g c =
     record {
       stop = c.count_change-in-Pass.ensures.counted.stop ∙ moved;
       refused = λ refuse. absurd (cc);
-      passed = λ pass. passes_unarmed fuse.counters.stop c.args.lba c.args.bytes.now fuse _ c.count_change-in-Pass.result unarmed wrote refl;
+      passed = λ pass. (passes_unarmed fuse.counters.stop c.args.lba c.args.bytes.now fuse _ c.count_change-in-Pass.result unarmed wrote, refl);
       chosen = λ keep stop. absurd (cc);
       sectors_read = refl;
     }

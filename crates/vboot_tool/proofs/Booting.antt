@@ -69,6 +69,7 @@ boots_read_fault switch old new fault read = record {
   kernel = λ told. ap (λ (s : Spaces). s.kernel) read.spaces;
   version = λ told told'. ap (λ (s : Spaces). stored_firmware_version s.firmware) read.spaces;
   outcome = λ told told'. read_leaves (boot_plan switch old.flash.medium.bytes old.tpm.spaces) old new fault read.none_done read.medium read.spaces;
+  full_stays = λ told told' full. record { flash = read.medium; spaces = read.spaces };
   stands = λ told told' whole. absurd whole;
 }
 
@@ -100,6 +101,7 @@ boots_full switch old new found plan read is_plan some counts last = record {
       let is = read.state told in
       let here : plan ≡ boot_plan switch old.flash.medium.bytes old.tpm.spaces = is_plan ∙ ap (plan_of switch) (read.found told told') in
       subst (λ (p : Plan). IsFull p old.flash.medium.bytes) here (record { counts = ap is_some (sym is.generation) ∙ counts; no_cell = sym is.next ∙ last; change = some });
+  full_stays = λ told told' full. record { flash = read.medium; spaces = read.spaces };
   stands = λ told told' whole. absurd whole;
 }
 
@@ -155,6 +157,7 @@ written_before plan old mid new fault same wrote = record {
 
 began_before : (plan : Plan) (old mid new : World) (fault : Fault) → SameBefore old mid → StoringBegan plan mid new fault → StoringBegan plan old new fault
 began_before plan old mid new fault same began = record {
+  some = began.some;
   device = began.device;
   last = began.last;
   broke = subst (λ (n : ℕ). Rose n new.flash.counters.failed_changes) same.flash_broken began.broke;
@@ -226,6 +229,9 @@ boots_carried switch old mid new found plan answer read is_plan good version roo
     let is = read.state told in
     let lower : found.state.next < 255 = room some (ap is_some is.generation ∙ counts) in
     omega (arith, is.next) in
+    let not_full : IsTrue old.flash.medium.told → IsTrue old.tpm.told → IsFull plan old.flash.medium.bytes → ⊥ = λ told told' full.
+    let lower : next_cell old.flash.medium.bytes < 255 = room_in told full.change full.counts in
+    omega (arith, full.no_cell, lower) in
     record {
       flash_calls = 0 + carried.flash_calls;
       flash_few = omega (arith, carried.flash_few, few_record_calls plan.nv found.state.generation);
@@ -249,11 +255,12 @@ boots_carried switch old mid new found plan answer read is_plan good version roo
           let firmware_is : found.firmware ≡ good_bytes (firmware_fault old.tpm.spaces.firmware) old.tpm.spaces.firmware = ap (λ (f : Found). f.firmware) (read.found told told') in
           version_of plan.firmware old.tpm.spaces new.tpm.spaces (subst (λ (f : Result (List ℕ) SpaceFault). IfSome plan.firmware (KeepsVersion f)) firmware_is version) (either told');
       outcome = λ told told'. subst (λ (p : Plan). BootOutcome p old new answer) (here told told') (outcome told told');
+      full_stays = λ told told' full. absurd (not_full told told' (subst (λ (p : Plan). IsFull p old.flash.medium.bytes) (sym (here told told')) full));
       stands = λ told told' whole.
           subst (λ (p : Plan). Stands p old new) (here told told')
           (record {
             stands = λ r some.
                 stands_in plan.nv old.flash.medium.bytes new.flash.medium.bytes r (page_of_whole plan old new answer whole (outcome told told')) some (size told) good (room_in told (ap is_some some));
-            not_full = λ full. let lower : next_cell old.flash.medium.bytes < 255 = room_in told full.change full.counts in absurd (omega (arith, full.no_cell));
+            not_full = not_full told told';
           });
     }

@@ -1,7 +1,7 @@
 -- What holds at each exit status, by the answer that was printed.
-use Rattle.std.proofs.Common.{◌≡◌, ℕ, ◌+◌, ◌≤◌, Bool, true, false, List, ◌++◌, refl, sym, ap, ◌∙◌, arith, inl, inr}
-use Rattle.std.specs.Prelude.{IsTrue}
-use Rattle.std.proofs.lemmas.Bool.{eq-eqb}
+use Rattle.std.proofs.Common.{◌≡◌, ℕ, ◌+◌, ◌≤◌, Bool, true, false, List, ◌++◌, length, None, refl, sym, ap, subst, ◌∙◌, arith, inl, inr}
+use Rattle.std.specs.Prelude.{IsTrue, is_some}
+use Rattle.std.proofs.lemmas.Bool.{eq-eqb, false≢true}
 use Rattle.record_core.specs.Space.{stored_firmware_version, stored_kernel_version}
 use Rattle.board_core.specs.declared.device.Device.{Device}
 use Rattle.board_core.specs.declared.device.Device.TheVariants as device
@@ -9,16 +9,22 @@ use Rattle.board_core.specs.declared.device.Fault.{Fault}
 use Rattle.board_core.specs.Counters.{Rose}
 use Rattle.board_core.specs.Fault.{same_device}
 use Rattle.board_core.specs.Streams.{StreamState}
+use Rattle.board_core.specs.Tpm.{Spaces}
 use Rattle.board_core.specs.World.{World}
+use Rattle.fwsel_core.specs.declared.boot_mode.Mode.{Mode}
+use Rattle.fwsel_core.specs.declared.boot_mode.Mode.TheVariants.{Normal, Developer, Manual, Broken}
+use Rattle.fwsel_core.specs.Mode.{mode_of}
 use Rattle.vboot_tool.specs.declared.answer.Form.TheVariants as form
 use Rattle.vboot_tool.specs.declared.answer.Answer.{Answer}
 use Rattle.vboot_tool.specs.declared.answer.Answer.TheVariants as answers
 use Rattle.vboot_tool.specs.declared.answer.Status.{Status}
 use Rattle.vboot_tool.specs.Answer.{text_of, code_of, device_code}
-use Rattle.vboot_tool.specs.Plan.{boot_plan}
+use Rattle.vboot_tool.specs.declared.plan.Found.{Found}
+use Rattle.vboot_tool.specs.declared.plan.Outcome.TheVariants as outcome
+use Rattle.vboot_tool.specs.Plan.{plan_in, plan_of, facts_of, found_in, found_record, boot_plan}
 use Rattle.vboot_tool.specs.Steps.{IsBoardDevice}
-use Rattle.vboot_tool.specs.Boot.{IsUnchanged, Boots}
-use Rattle.vboot_tool.specs.Run.{IsCommand, BootsBy, Works, Prints, Runs, GoesOn, EndsAtScreen, FindsFull, Ends}
+use Rattle.vboot_tool.specs.Boot.{IsFull, IsUnchanged, Boots}
+use Rattle.vboot_tool.specs.Run.{boot_words, IsCommand, BootsBy, Works, Prints, Runs, GoesOn, EndsAtScreen, FindsFull, IsToldBoot, outcome_code, Ends}
 
 -- the status is that of the answer, and all of its text was put
 pub record Shown (given : Answer) (put put' : StreamState) (status : Status) : Type 0 where
@@ -181,6 +187,88 @@ other_size_of words old new (answers.NotBuilt form.Recovery) by is other = absur
 other_size_of words old new answers.NvFull by is other = absurd (other by.size)
 other_size_of words old new (answers.Fault fault) by is other = absurd (other by.size)
 
+-- ---- and where no device failed
+
+-- the words tell the switch
+same_switch : (a b : Bool) → boot_words a ≡ boot_words b → a ≡ b
+same_switch false false same = refl
+same_switch true true same = refl
+same_switch false true same = let sizes : 1 ≡ 2 = ap length same in absurd (omega (arith, sizes))
+same_switch true false same = let sizes : 2 ≡ 1 = ap length same in absurd (omega (arith, sizes))
+
+boots_at : (words : List (List ℕ)) (old new : World) (given : Answer) (switch : Bool) → BootsBy words old new given → IsToldBoot switch words old → Boots switch old new given
+boots_at words old new given switch by told = subst (λ (s : Bool). Boots s old new given) (same_switch by.switch switch (sym by.by_words ∙ told.by_words)) by.boots
+
+-- a recovery by hand stores nothing
+nothing_in_mode : (m : Mode) (found : Found) (r : List ℕ) → (plan_in m found r).outcome ≡ outcome.NotBuiltRecovery → (plan_in m found r).nv ≡ None
+nothing_in_mode Manual found r is = refl
+nothing_in_mode (Broken why more) found r is = absurd cc
+nothing_in_mode Normal found r is = absurd cc
+nothing_in_mode Developer found r is = absurd cc
+
+nothing_by_hand : (switch : Bool) (page : List ℕ) (spaces : Spaces) → (boot_plan switch page spaces).outcome ≡ outcome.NotBuiltRecovery → (boot_plan switch page spaces).nv ≡ None
+unfolding plan_of
+nothing_by_hand switch page spaces is = nothing_in_mode (mode_of (facts_of switch (found_in page spaces))) (found_in page spaces) (found_record (found_in page spaces)) is
+
+not_full_by_hand : (switch : Bool) (page : List ℕ) (spaces : Spaces) → (boot_plan switch page spaces).outcome ≡ outcome.NotBuiltRecovery → IsFull (boot_plan switch page spaces) page → ⊥
+not_full_by_hand switch page spaces is full = false≢true (ap is_some (sym (nothing_by_hand switch page spaces is)) ∙ full.change)
+
+-- the switch asks for a recovery by hand
+switch_is_by_hand : (page : List ℕ) (spaces : Spaces) → (boot_plan true page spaces).outcome ≡ outcome.NotBuiltRecovery
+unfolding plan_of
+switch_is_by_hand page spaces = refl
+
+no_board_code : (which : Device) → IsBoardDevice which → (device_code which ≡ 5 → ⊥) → (device_code which ≡ 6 → ⊥) → ⊥
+no_board_code device.Flash is not_flash not_tpm = not_flash refl
+no_board_code device.Tpm is not_flash not_tpm = not_tpm refl
+no_board_code device.Disk is not_flash not_tpm = absurd is
+no_board_code device.Stick is not_flash not_tpm = absurd is
+no_board_code device.Hook is not_flash not_tpm = absurd is
+
+full_of : (words : List (List ℕ)) (old new : World) (given : Answer) (switch : Bool) → Works words old new given → IsToldBoot switch words old
+    → IsFull (boot_plan switch old.flash.medium.bytes old.tpm.spaces) old.flash.medium.bytes → (code_of given ≡ 5 → ⊥) → (code_of given ≡ 6 → ⊥) → code_of given ≡ 18
+full_of words old new answers.Usage switch by told full not_flash not_tpm = absurd (by.0 (switch, told.by_words))
+full_of words old new (answers.Selected developer slot) switch by told full not_flash not_tpm =
+    absurd (((boots_at words old new (answers.Selected developer slot) switch by told).stands told.flash_told told.tpm_told tt).not_full full)
+full_of words old new (answers.Screen reason subcode) switch by told full not_flash not_tpm =
+    absurd (((boots_at words old new (answers.Screen reason subcode) switch by told).stands told.flash_told told.tpm_told tt).not_full full)
+full_of words old new (answers.NotBuilt form.Flash) switch by told full not_flash not_tpm = absurd (by.1 told.size)
+full_of words old new (answers.NotBuilt form.Recovery) switch by told full not_flash not_tpm =
+    absurd (not_full_by_hand switch old.flash.medium.bytes old.tpm.spaces ((boots_at words old new (answers.NotBuilt form.Recovery) switch by told).outcome told.flash_told told.tpm_told) full)
+full_of words old new answers.NvFull switch by told full not_flash not_tpm = refl
+full_of words old new (answers.Fault fault) switch by told full not_flash not_tpm = absurd (no_board_code fault.device by.boots.fault not_flash not_tpm)
+
+room_of : (words : List (List ℕ)) (old new : World) (given : Answer) (switch : Bool) → Works words old new given → IsToldBoot switch words old
+    → (IsFull (boot_plan switch old.flash.medium.bytes old.tpm.spaces) old.flash.medium.bytes → ⊥) → (code_of given ≡ 5 → ⊥) → (code_of given ≡ 6 → ⊥)
+    → code_of given ≡ outcome_code (boot_plan switch old.flash.medium.bytes old.tpm.spaces).outcome
+room_of words old new answers.Usage switch by told room not_flash not_tpm = absurd (by.0 (switch, told.by_words))
+room_of words old new (answers.Selected developer slot) switch by told room not_flash not_tpm =
+    sym (ap outcome_code ((boots_at words old new (answers.Selected developer slot) switch by told).outcome told.flash_told told.tpm_told).0)
+room_of words old new (answers.Screen reason subcode) switch by told room not_flash not_tpm =
+    sym (ap outcome_code ((boots_at words old new (answers.Screen reason subcode) switch by told).outcome told.flash_told told.tpm_told).0)
+room_of words old new (answers.NotBuilt form.Flash) switch by told room not_flash not_tpm = absurd (by.1 told.size)
+room_of words old new (answers.NotBuilt form.Recovery) switch by told room not_flash not_tpm =
+    sym (ap outcome_code ((boots_at words old new (answers.NotBuilt form.Recovery) switch by told).outcome told.flash_told told.tpm_told))
+room_of words old new answers.NvFull switch by told room not_flash not_tpm = absurd (room ((boots_at words old new answers.NvFull switch by told).outcome told.flash_told told.tpm_told))
+room_of words old new (answers.Fault fault) switch by told room not_flash not_tpm = absurd (no_board_code fault.device by.boots.fault not_flash not_tpm)
+
+recovery_of : (words : List (List ℕ)) (old new : World) (given : Answer) → Works words old new given → IsToldBoot true words old → (code_of given ≡ 5 → ⊥) → (code_of given ≡ 6 → ⊥) → code_of given ≡ 19
+recovery_of words old new given by told not_flash not_tpm =
+    let by_hand = switch_is_by_hand old.flash.medium.bytes old.tpm.spaces in
+    room_of words old new given true by told (not_full_by_hand true old.flash.medium.bytes old.tpm.spaces by_hand) not_flash not_tpm ∙ ap outcome_code by_hand
+
+-- ---- a full page at every answer
+
+full_stays_of : (words : List (List ℕ)) (old new : World) (given : Answer) (switch : Bool) → Works words old new given → IsToldBoot switch words old
+    → IsFull (boot_plan switch old.flash.medium.bytes old.tpm.spaces) old.flash.medium.bytes → IsUnchanged old new
+full_stays_of words old new answers.Usage switch by told full = absurd (by.0 (switch, told.by_words))
+full_stays_of words old new (answers.Selected developer slot) switch by told full = (boots_at words old new (answers.Selected developer slot) switch by told).full_stays told.flash_told told.tpm_told full
+full_stays_of words old new (answers.Screen reason subcode) switch by told full = (boots_at words old new (answers.Screen reason subcode) switch by told).full_stays told.flash_told told.tpm_told full
+full_stays_of words old new (answers.NotBuilt form.Flash) switch by told full = absurd (by.1 told.size)
+full_stays_of words old new (answers.NotBuilt form.Recovery) switch by told full = (boots_at words old new (answers.NotBuilt form.Recovery) switch by told).full_stays told.flash_told told.tpm_told full
+full_stays_of words old new answers.NvFull switch by told full = (boots_at words old new answers.NvFull switch by told).full_stays told.flash_told told.tpm_told full
+full_stays_of words old new (answers.Fault fault) switch by told full = (boots_at words old new (answers.Fault fault) switch by told).full_stays told.flash_told told.tpm_told full
+
 -- ---- the spaces at every answer
 
 kernel_of : (words : List (List ℕ)) (old new : World) (given : Answer) → Works words old new given → IsTrue old.tpm.told → stored_kernel_version new.tpm.spaces.kernel ≡ stored_kernel_version old.tpm.spaces.kernel
@@ -225,6 +313,16 @@ ends_of words old new put put' status runs =
       );
       on_usage = λ none not_sink. runs.prints.code not_sink ∙ usage_of words old new given by none;
       on_other_size = λ is other not_sink. runs.prints.code not_sink ∙ other_size_of words old new given by is other;
+      on_full = λ switch told full no_fault.
+          let code = runs.prints.code no_fault.sink in
+          code ∙ full_of words old new given switch by told full (λ e. no_fault.flash (code ∙ e)) (λ e. no_fault.tpm (code ∙ e));
+      on_room = λ switch told room no_fault.
+          let code = runs.prints.code no_fault.sink in
+          code ∙ room_of words old new given switch by told room (λ e. no_fault.flash (code ∙ e)) (λ e. no_fault.tpm (code ∙ e));
+      on_recovery = λ told no_fault.
+          let code = runs.prints.code no_fault.sink in
+          code ∙ recovery_of words old new given by told (λ e. no_fault.flash (code ∙ e)) (λ e. no_fault.tpm (code ∙ e));
+      full_stays = λ switch told full. full_stays_of words old new given switch by told full;
       kernel = kernel_of words old new given by;
       version = version_of words old new given by;
     }

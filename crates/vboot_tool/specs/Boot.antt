@@ -57,6 +57,7 @@ pub record WroteThoughFailed (plan : Plan) (old new : World) (fault : Fault) : T
 
 -- The next change is that of the record, and it had begun: the fault is one of the flash, in a change.
 pub record StoringBegan (plan : Plan) (old new : World) (fault : Fault) : Type 0 where
+  pub some : IsSome plan.nv
   pub device : fault.device ≡ device.Flash
   pub last : fault.done ≡ change_count plan.firmware
   pub broke : Rose old.flash.counters.failed_changes new.flash.counters.failed_changes
@@ -163,4 +164,6 @@ pub record Boots (switch : Bool) (old new : World) (answer : Answer) : Type 0 wh
   pub kernel : IsTrue old.tpm.told → new.tpm.spaces.kernel ≡ old.tpm.spaces.kernel
   pub version : IsTrue old.flash.medium.told → IsTrue old.tpm.told → stored_firmware_version new.tpm.spaces.firmware ≡ stored_firmware_version old.tpm.spaces.firmware
   pub outcome : IsTrue old.flash.medium.told → IsTrue old.tpm.told → BootOutcome (boot_plan switch old.flash.medium.bytes old.tpm.spaces) old new answer
+  -- at every answer, a full page changes nothing
+  pub full_stays : IsTrue old.flash.medium.told → IsTrue old.tpm.told → IsFull (boot_plan switch old.flash.medium.bytes old.tpm.spaces) old.flash.medium.bytes → IsUnchanged old new
   pub stands : IsTrue old.flash.medium.told → IsTrue old.tpm.told → IsWhole answer → Stands (boot_plan switch old.flash.medium.bytes old.tpm.spaces) old new

@@ -10,6 +10,7 @@ use Rattle.vboot_tool.specs.declared.answer.Form.TheVariants as form
 use Rattle.vboot_tool.specs.declared.answer.Answer.{Answer}
 use Rattle.vboot_tool.specs.declared.answer.Answer.TheVariants as answers
 use Rattle.vboot_tool.specs.declared.answer.Status.{Status}
+use Rattle.vboot_tool.specs.declared.plan.Outcome.{Outcome}
 use Rattle.vboot_tool.specs.declared.plan.Outcome.TheVariants as outcome
 use Rattle.vboot_tool.specs.Answer.{text_of, code_of}
 use Rattle.vboot_tool.specs.Plan.{boot_plan}
@@ -88,6 +89,29 @@ pub record FindsFull (words : List (List ℕ)) (old new : World) : Type 0 where
   pub full : IsTrue old.flash.medium.told → IsTrue old.tpm.told → IsFull (boot_plan switch old.flash.medium.bytes old.tpm.spaces) old.flash.medium.bytes
   pub unchanged : IsUnchanged old new
 
+-- ---- what comes where nothing fails
+
+-- These words boot, on a flash of one page, and the devices tell what they hold.
+pub record IsToldBoot (switch : Bool) (words : List (List ℕ)) (old : World) : Type 0 where
+  pub by_words : words ≡ boot_words switch
+  pub size : old.flash.medium.size ≡ 4096
+  pub flash_told : IsTrue old.flash.medium.told
+  pub tpm_told : IsTrue old.tpm.told
+
+-- The status is that of no fault, of a device or of the sink.
+pub record IsNoFault (status : Status) : Type 0 where
+  pub flash : status.code ≡ 5 → ⊥
+  pub tpm : status.code ≡ 6 → ⊥
+  pub sink : status.code ≡ 9 → ⊥
+
+-- the status that an outcome leads to
+abbrev pub outcome_code : Outcome → ℕ
+outcome_code (outcome.Selected developer slot) = 0
+outcome_code (outcome.Screen reason subcode) = 3
+outcome_code outcome.NotBuiltRecovery = 19
+
+-- ---- both ways
+
 pub record Ends (words : List (List ℕ)) (old new : World) (put put' : StreamState) (status : Status) : Type 0 where
   pub selected : status.code ≡ 0 → IsTrue old.flash.medium.told → IsTrue old.tpm.told → GoesOn words old new put put'
   -- the words are no command
@@ -104,6 +128,13 @@ pub record Ends (words : List (List ℕ)) (old new : World) (put put' : StreamSt
   -- and the other way: where the sink did not fail
   pub on_usage : (IsCommand words → ⊥) → (status.code ≡ 9 → ⊥) → status.code ≡ 1
   pub on_other_size : IsCommand words → (old.flash.medium.size ≡ 4096 → ⊥) → (status.code ≡ 9 → ⊥) → status.code ≡ 19
+  -- and where no device failed either: 18 where the page is full, else the status of the plan
+  pub on_full : (switch : Bool) → IsToldBoot switch words old → IsFull (boot_plan switch old.flash.medium.bytes old.tpm.spaces) old.flash.medium.bytes → IsNoFault status → status.code ≡ 18
+  pub on_room : (switch : Bool) → IsToldBoot switch words old → (IsFull (boot_plan switch old.flash.medium.bytes old.tpm.spaces) old.flash.medium.bytes → ⊥) → IsNoFault status
+      → status.code ≡ outcome_code (boot_plan switch old.flash.medium.bytes old.tpm.spaces).outcome
+  pub on_recovery : IsToldBoot true words old → IsNoFault status → status.code ≡ 19
+  -- at every status, a fault too, a boot that finds the page full changes nothing
+  pub full_stays : (switch : Bool) → IsToldBoot switch words old → IsFull (boot_plan switch old.flash.medium.bytes old.tpm.spaces) old.flash.medium.bytes → IsUnchanged old new
   -- at every status the kernel space is as it was, and the firmware space keeps its version
   pub kernel : IsTrue old.tpm.told → stored_kernel_version new.tpm.spaces.kernel ≡ stored_kernel_version old.tpm.spaces.kernel
   pub version : IsTrue old.flash.medium.told → IsTrue old.tpm.told → stored_firmware_version new.tpm.spaces.firmware ≡ stored_firmware_version old.tpm.spaces.firmware

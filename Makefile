@@ -10,7 +10,7 @@ RECORD := \100\002\0\0\0\0\0\002\0\0\0\0\0\0\0\150
 FIRMWARE := \002\001\001\000\001\000\000\000\000\134
 KERNEL := \002LWRG\001\000\001\000\000\000\000\125
 
-MACHINE := machine/flash.bin machine/tpm_fw.bin machine/tpm_kernel.bin
+MACHINE := machine/flash.bin machine/tpm_fw.bin machine/tpm_kernel.bin machine/hook.toml
 
 .PHONY: boot program clean
 
@@ -39,6 +39,11 @@ machine/tpm_fw.bin:
 machine/tpm_kernel.bin:
 	mkdir -p machine
 	printf '$(KERNEL)' > $@
+
+# The two signatures of the program's own run.
+machine/hook.toml: crates/vboot_tool/data/hook.toml
+	mkdir -p machine
+	cp $< $@
 
 clean:
 	rm -rf machine

@@ -1,10 +1,9 @@
 -- The table of fields: what is true of each row and of each two rows, by computation.
-use Rattle.std.proofs.Common.{◌≡◌, ℕ, zero, suc, ◌+◌, ◌*◌, ◌/◌, ◌^◌, ◌<◌, ◌≤◌, ◌≢◌, Bool, true, false, List, [], ◌∷◌, get_or, refl, sym, ap, subst, ◌∙◌, arith, inl, inr, lit<}
-use Rattle.std.specs.Prelude.{bit_and, ◌==◌, ◌&&◌, ◌||◌, nat_lt, nat_le, not}
-use Rattle.std.proofs.lemmas.Bool.{and_parts, or_cases, eqb-true, eq-eqb, ltb-true, le-leb, not_from_true, false≢true, agree_below, agree_below_at}
+use Rattle.std.proofs.Common.{◌≡◌, ℕ, ◌*◌, ◌^◌, ◌<◌, ◌≤◌, ◌≢◌, Bool, true, List, [], ◌∷◌, get_or, refl, sym, ap, subst, ◌∙◌, arith, inl, inr, lit<}
+use Rattle.std.specs.Prelude.{bit_and, ◌==◌, ◌&&◌, ◌||◌, nat_lt, not}
+use Rattle.std.proofs.lemmas.Bool.{and_parts, or_cases, eqb-true, eq-eqb, ltb-true, not_from_true, false≢true, agree_below, agree_below_at}
 use Rattle.record_core.specs.declared.field.NvField.{NvField}
 use Rattle.record_core.specs.declared.field.NvField.TheVariants as field
-use Rattle.record_core.specs.declared.field.Place.{Place}
 use Rattle.record_core.specs.Field.{place_of, greatest_value}
 
 all_fields : List NvField

@@ -1,6 +1,6 @@
 -- A good record with a field replaced is good, has the field's value, and keeps every other field.
-use Rattle.std.proofs.Common.{◌≡◌, ℕ, zero, suc, ◌+◌, ◌*◌, ◌/◌, ◌%◌, ◌^◌, ◌<◌, ◌≤◌, ◌≢◌, List, length, get_or, take, refl, sym, ap, subst, ◌∙◌, arith, inl, inr, get_or-set_other, get_or-set_same}
-use Rattle.std.specs.Prelude.{bit_and, slice_set, slice_index}
+use Rattle.std.proofs.Common.{◌≡◌, ℕ, ◌*◌, ◌/◌, ◌%◌, ◌^◌, ◌<◌, ◌≤◌, ◌≢◌, List, length, get_or, take, refl, sym, ap, subst, ◌∙◌, arith, inl, inr, get_or-set_other, get_or-set_same}
+use Rattle.std.specs.Prelude.{bit_and}
 use Rattle.std.proofs.Math.ListN.{set, length-set}
 use Rattle.std.proofs.Math.Nat.{mul-div_cancel, mod-eq_of_lt}
 use Rattle.std.proofs.lemmas.Bool.{cases_eq, and_from, and_parts, eq-eqb, eqb-true}
@@ -12,7 +12,7 @@ use Rattle.record_core.specs.declared.field.Place.{Place}
 use Rattle.record_core.specs.Field.{place_of, greatest_value, field_of, with_bits}
 use Rattle.record_core.specs.Nv.{IsGoodRecord, checked, with_field}
 use Rattle.record_core.proofs.Bits.{under_mask, apart_from_mask}
-use Rattle.record_core.proofs.Fields.{byte_before_crc, mask_of_byte, mask_apart_from_signature, IsHeld, value_is_held, apart_fields}
+use Rattle.record_core.proofs.Fields.{byte_before_crc, mask_of_byte, mask_apart_from_signature, value_is_held, apart_fields}
 
 -- the parts of a good record
 pub record GoodParts (r : List ℕ) : Type 0 where

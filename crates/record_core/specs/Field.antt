@@ -1,7 +1,7 @@
 -- The fields of the nvdata record, version 1.
 -- Source: vboot_reference, firmware/2lib/2nvstorage.c and 2nvstorage_fields.h; the developer bits of byte 4 stand at
 -- places of this project's own.
-use Rattle.std.specs.Prelude.{ℕ, ◌-◌, ◌*◌, ◌/◌, ◌^◌, List, slice_index, bit_and, bit_or}
+use Rattle.std.specs.Prelude.{ℕ, ◌-◌, ◌/◌, ◌^◌, List, slice_index, bit_and, bit_or}
 use Rattle.record_core.specs.declared.field.NvField.{NvField}
 use Rattle.record_core.specs.declared.field.NvField.TheVariants as field
 use Rattle.record_core.specs.declared.field.Place.{Place}

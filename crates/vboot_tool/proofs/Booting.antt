@@ -1,13 +1,12 @@
 -- A boot by its steps: what is read and carried out, over the world before both.
-use Rattle.std.proofs.Common.{◌≡◌, ℕ, zero, suc, ◌+◌, ◌*◌, ◌<◌, ◌≤◌, Bool, true, false, List, length, take, Option, Some, None, Result, Ok, Err, refl, sym, ap, subst, ◌∙◌, arith, inl, inr}
-use Rattle.std.specs.Prelude.{IsTrue, is_some, IsSome, IfSome, ◌⊎◌, nat_lt}
-use Rattle.std.proofs.lemmas.Bool.{cond-true, cond-false, cases_lt, lt-ltb, le-ltb, false≢true, and_parts, eqb-true, eq-eqb}
+use Rattle.std.proofs.Common.{◌≡◌, ℕ, ◌+◌, ◌*◌, ◌<◌, ◌≤◌, Bool, List, length, take, Option, Some, None, Result, Ok, Err, refl, sym, ap, subst, ◌∙◌, arith, inl, inr}
+use Rattle.std.specs.Prelude.{IsTrue, is_some, IsSome, IfSome, ◌⊎◌}
+use Rattle.std.proofs.lemmas.Bool.{cond-true, cond-false, cases_lt, lt-ltb, le-ltb, and_parts, eqb-true, eq-eqb}
 use Rattle.record_core.specs.Nv.{IsGoodRecord}
 use Rattle.record_core.specs.declared.space.SpaceFault.{SpaceFault}
 use Rattle.record_core.specs.Space.{firmware_fault, good_bytes, stored_firmware_version}
-use Rattle.board_core.specs.declared.device.Device.TheVariants as device
 use Rattle.board_core.specs.declared.device.Fault.{Fault}
-use Rattle.board_core.specs.Counters.{Observed, MadeChanges, Rose}
+use Rattle.board_core.specs.Counters.{Rose}
 use Rattle.board_core.specs.Flash.{FlashMedium}
 use Rattle.board_core.specs.Tpm.{Spaces}
 use Rattle.board_core.specs.World.{World}
@@ -17,11 +16,11 @@ use Rattle.vboot_tool.specs.declared.answer.Answer.{Answer}
 use Rattle.vboot_tool.specs.declared.answer.Answer.TheVariants as answers
 use Rattle.vboot_tool.specs.declared.plan.Found.{Found}
 use Rattle.vboot_tool.specs.declared.plan.Plan.{Plan}
-use Rattle.vboot_tool.specs.Page.{page_generation, Counts, next_cell, standing_record, appended}
-use Rattle.vboot_tool.specs.Store.{IsStateOf, changing_calls, KeepsWritten}
-use Rattle.vboot_tool.specs.Plan.{plan_of, found_in, boot_plan, KeepsVersion}
+use Rattle.vboot_tool.specs.Page.{Counts, next_cell, standing_record}
+use Rattle.vboot_tool.specs.Store.{KeepsWritten}
+use Rattle.vboot_tool.specs.Plan.{plan_of, boot_plan, KeepsVersion}
 use Rattle.vboot_tool.specs.Steps.{ReadsBoard, change_count, spaces_with, page_with, record_calls}
-use Rattle.vboot_tool.specs.Boot.{plan_count, spaces_after, page_after, IsFull, IsDone, Stands, LeavesDone, WroteThoughFailed, StoringBegan, BootOutcome, IsWhole, ChangesNothing, CarriesOut, Boots, IsUnchanged}
+use Rattle.vboot_tool.specs.Boot.{plan_count, spaces_after, page_after, IsFull, IsDone, Stands, LeavesDone, WroteThoughFailed, StoringBegan, BootOutcome, IsWhole, ChangesNothing, CarriesOut, Boots}
 use Rattle.vboot_tool.proofs.Standing.{standing_record-appended}
 
 -- ---- a fault while reading

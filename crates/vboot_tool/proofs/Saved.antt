@@ -1,13 +1,11 @@
 -- A page after a record was appended: what a program or three changing calls leave.
-use Rattle.std.proofs.Common.{◌≡◌, ℕ, zero, suc, ◌+◌, ◌-◌, ◌*◌, ◌<◌, ◌≤◌, Bool, true, false, List, [], ◌∷◌, ◌++◌, length, take, drop, Option, Some, None, Result, Ok, Err, refl, sym, ap, subst, ◌∙◌, arith, inl, inr, append_assoc, length-append}
-use Rattle.std.specs.Prelude.{All, replicate, OnOk, is_some}
-use Rattle.std.specs.List.{list_all}
-use Rattle.std.proofs.Common.{get_or}
-use Rattle.std.proofs.lemmas.Bool.{and_parts, eqb-true, cond-true, cond-false}
+use Rattle.std.proofs.Common.{◌≡◌, ℕ, ◌+◌, ◌-◌, ◌≤◌, true, List, [], ◌∷◌, ◌++◌, length, take, drop, Result, Ok, Err, refl, sym, ap, subst, ◌∙◌, arith, append_assoc}
+use Rattle.std.specs.Prelude.{replicate, OnOk}
+use Rattle.std.proofs.lemmas.Bool.{and_parts, eqb-true}
 use Rattle.std.proofs.lemmas.List.{length-replicate, take-replicate, drop-replicate, drop_at, take_at, drop_all, append-nil}
 use Rattle.std.proofs.lemmas.List.Elements.{All-replicate, All-nil, All-cons}
 use Rattle.board_core.specs.Flash.{FlashMedium, Programmed, Erased, range, spliced, IsErased, erased_page}
-use Rattle.vboot_tool.specs.Page.{head_of, page_generation, is_erased, next_cell, fresh_page, appended}
+use Rattle.vboot_tool.specs.Page.{head_of, is_erased, fresh_page}
 
 pub on_ok_map : {T E P Q : Type 0} (r : Result T E) → (P → Q) → OnOk r P → OnOk r Q
 on_ok_map (Ok x) f p = f p

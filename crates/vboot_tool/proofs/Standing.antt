@@ -1,13 +1,13 @@
 -- The record that was appended is the one that stands.
-use Rattle.std.proofs.Common.{◌≡◌, ℕ, zero, suc, ◌+◌, ◌-◌, ◌*◌, ◌<◌, ◌≤◌, Bool, true, false, cond, List, [], ◌∷◌, ◌++◌, length, take, drop, Option, Some, None, refl, sym, ap, subst, ◌∙◌, arith, inl, inr, append_assoc, length-append}
+use Rattle.std.proofs.Common.{◌≡◌, ℕ, ◌+◌, ◌-◌, ◌*◌, ◌<◌, true, false, cond, List, ◌++◌, length, take, drop, Some, None, refl, sym, ap, subst, ◌∙◌, arith, inl, inr, append_assoc, length-append}
 use Rattle.std.specs.Prelude.{is_some, replicate}
 use Rattle.std.specs.Str.{bytes_eq}
-use Rattle.std.proofs.lemmas.Bool.{cond-true, cond-false, cases_Bool, false≢true}
-use Rattle.std.proofs.lemmas.List.{take_at, drop_at, length-replicate, take-replicate, drop-replicate, drop-drop}
+use Rattle.std.proofs.lemmas.Bool.{cond-true, cond-false, cases_Bool}
+use Rattle.std.proofs.lemmas.List.{take_at, drop_at, take-replicate, drop-replicate, drop-drop}
 use Rattle.std.proofs.lemmas.Slice.Eq.{bytes_eq-Decides}
 use Rattle.record_core.specs.Nv.{is_good_record}
-use Rattle.board_core.specs.Flash.{range, spliced}
-use Rattle.vboot_tool.specs.Page.{head_of, has_head, page_generation, cell_of, is_erased, last_good, standing_record, next_cell, fresh_page, appended}
+use Rattle.board_core.specs.Flash.{spliced}
+use Rattle.vboot_tool.specs.Page.{head_of, page_generation, cell_of, last_good, standing_record, next_cell, fresh_page, appended}
 use Rattle.vboot_tool.proofs.Ranges.{take-spliced}
 use Rattle.vboot_tool.proofs.Stored.{erased_is_no_record, last_good-at, last_good-spliced}
 use Rattle.vboot_tool.proofs.Saved.{length-head_of}

@@ -1,13 +1,12 @@
 -- What stands in a page after a record was put into a cell behind which all cells are erased.
-use Rattle.std.proofs.Common.{◌≡◌, ℕ, zero, suc, ◌+◌, ◌-◌, ◌*◌, ◌<◌, ◌≤◌, Bool, true, false, List, [], ◌∷◌, ◌++◌, length, get_or, take, drop, Option, Some, None, refl, sym, ap, subst, ◌∙◌, arith, inl, inr, lit≤, lit<}
-use Rattle.std.specs.Prelude.{bit_and, All, replicate, ◌==◌}
-use Rattle.std.specs.List.{list_all}
-use Rattle.std.proofs.lemmas.Bool.{cases_Bool, cases_lt, cases_eq, false≢true, eqb-true, and_parts, false_from_ne_true}
+use Rattle.std.proofs.Common.{◌≡◌, ℕ, zero, suc, ◌+◌, ◌*◌, ◌<◌, ◌≤◌, true, false, List, [], ◌∷◌, length, get_or, Some, sym, ap, subst, ◌∙◌, arith, inl, inr}
+use Rattle.std.specs.Prelude.{bit_and}
+use Rattle.std.proofs.lemmas.Bool.{cases_Bool, cases_lt, eqb-true, and_parts, false_from_ne_true}
 use Rattle.record_core.specs.Nv.{is_good_record}
-use Rattle.board_core.specs.Flash.{range, spliced, IsErased}
-use Rattle.vboot_tool.specs.Page.{cell_of, cells_below, is_erased, last_good, tail_start}
-use Rattle.vboot_tool.proofs.Ranges.{range-spliced_same, range-spliced_before, range-spliced_after}
-use Rattle.vboot_tool.proofs.Cells.{last_good-none, last_good-yes, last_good-no, tail_start-none, tail_start-yes, tail_start-no}
+use Rattle.board_core.specs.Flash.{range, spliced}
+use Rattle.vboot_tool.specs.Page.{cell_of, is_erased, last_good, tail_start}
+use Rattle.vboot_tool.proofs.Ranges.{range-spliced_same, range-spliced_after}
+use Rattle.vboot_tool.proofs.Cells.{last_good-yes, last_good-no, tail_start-yes, tail_start-no}
 
 -- ---- erased cells
 

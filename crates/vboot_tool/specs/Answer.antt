@@ -5,7 +5,6 @@ use Rattle.fwsel_core.specs.declared.slot.Slot.{Slot}
 use Rattle.fwsel_core.specs.declared.slot.Slot.TheVariants.{A, B}
 use Rattle.board_core.specs.declared.device.Device.{Device}
 use Rattle.board_core.specs.declared.device.Device.TheVariants as device
-use Rattle.board_core.specs.declared.device.Fault.{Fault}
 use Rattle.vboot_tool.specs.declared.answer.Form.TheVariants as form
 use Rattle.vboot_tool.specs.declared.answer.Answer.{Answer}
 use Rattle.vboot_tool.specs.declared.answer.Answer.TheVariants as answer

@@ -1,5 +1,5 @@
 -- One boot over a board: what its answer says of the plan, and what it leaves.
-use Rattle.std.specs.Prelude.{◌≡◌, ◌⊎◌, ℕ, ◌+◌, ◌≤◌, nat_lt, Bool, true, false, IsTrue, List, Option, Some, None, IsSome, if◌then◌else◌, ◌==◌}
+use Rattle.std.specs.Prelude.{◌≡◌, ◌⊎◌, ℕ, ◌+◌, ◌≤◌, nat_lt, Bool, false, IsTrue, List, Option, Some, IsSome, if◌then◌else◌, ◌==◌}
 use Rattle.record_core.specs.Space.{stored_firmware_version}
 use Rattle.board_core.specs.declared.device.Device.{Device}
 use Rattle.board_core.specs.declared.device.Device.TheVariants as device
@@ -13,7 +13,7 @@ use Rattle.vboot_tool.specs.declared.answer.Answer.{Answer}
 use Rattle.vboot_tool.specs.declared.answer.Answer.TheVariants as answers
 use Rattle.vboot_tool.specs.declared.plan.Outcome.TheVariants as outcome
 use Rattle.vboot_tool.specs.declared.plan.Plan.{Plan}
-use Rattle.vboot_tool.specs.Page.{page_generation, Counts, standing_record, HasStoredRecord, stored_record, next_cell}
+use Rattle.vboot_tool.specs.Page.{Counts, standing_record, next_cell}
 use Rattle.vboot_tool.specs.Store.{KeepsWritten}
 use Rattle.vboot_tool.specs.Plan.{boot_plan}
 use Rattle.vboot_tool.specs.Steps.{IsBoardDevice, both_locked, change_count, spaces_with, page_with, record_calls}

@@ -5,3 +5,4 @@ pub mod Plan
 pub mod Steps
 pub mod Boot
 pub mod Run
+pub mod Opening

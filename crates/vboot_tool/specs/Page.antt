@@ -1,7 +1,7 @@
 -- A page of nvdata: 4,096 bytes of flash, which are a head of 16 bytes and 255 cells of 16 bytes. Each cell takes one
 -- record, and the last good one is the record that stands.
 -- Source: this store is this project's own; the record in a cell is vboot's.
-use Rattle.std.specs.Prelude.{◌≡◌, ℕ, zero, suc, ◌+◌, ◌-◌, ◌*◌, Bool, IsTrue, List, [], ◌∷◌, ◌++◌, length, take, replicate, reverse, codes, ◌==◌, if◌then◌else◌, Option, Some, None, is_some, IsSome, unwrap_or}
+use Rattle.std.specs.Prelude.{ℕ, zero, suc, ◌+◌, ◌-◌, ◌*◌, Bool, List, [], ◌∷◌, ◌++◌, take, replicate, reverse, codes, ◌==◌, if◌then◌else◌, Option, Some, None, is_some, IsSome, unwrap_or}
 use Rattle.std.specs.List.{find, list_all, suffix_len}
 use Rattle.std.specs.Str.{bytes_eq}
 use Rattle.byteorder.specs.Endian.{little_bytes}

@@ -1,12 +1,11 @@
 -- The plan of a boot: its outcome and its changes, as one function of what the devices hold.
-use Rattle.std.specs.Prelude.{◌≡◌, ℕ, Bool, true, false, List, Option, Some, None, is_some, Result, Ok, Err, ◌==◌, not, unwrap_or, if◌then◌else◌}
+use Rattle.std.specs.Prelude.{◌≡◌, ℕ, Bool, true, false, List, Option, Some, None, Result, Ok, Err, ◌==◌, not, unwrap_or, if◌then◌else◌}
 use Rattle.std.specs.Str.{bytes_eq}
 use Rattle.record_core.specs.declared.field.NvField.TheVariants as field
 use Rattle.record_core.specs.declared.space.SpaceFault.{SpaceFault}
 use Rattle.record_core.specs.Field.{field_of}
 use Rattle.record_core.specs.Nv.{with_field, blank_record}
 use Rattle.record_core.specs.Space.{fault_number, firmware_fault, kernel_fault, good_bytes, firmware_flags, with_firmware_flags, stored_firmware_version}
-use Rattle.fwsel_core.specs.declared.slot.Slot.{Slot}
 use Rattle.fwsel_core.specs.declared.boot_mode.Mode.{Mode}
 use Rattle.fwsel_core.specs.declared.boot_mode.Mode.TheVariants.{Normal, Developer, Manual, Broken}
 use Rattle.fwsel_core.specs.declared.boot_mode.ModeFacts.{ModeFacts}
@@ -16,7 +15,6 @@ use Rattle.fwsel_core.specs.Selection.{selected_slot, selected_record}
 use Rattle.board_core.specs.Tpm.{Spaces}
 use Rattle.vboot_tool.specs.declared.store.NvState.{NvState}
 use Rattle.vboot_tool.specs.declared.plan.Found.{Found}
-use Rattle.vboot_tool.specs.declared.plan.Outcome.{Outcome}
 use Rattle.vboot_tool.specs.declared.plan.Outcome.TheVariants.{Selected, Screen, NotBuiltRecovery}
 use Rattle.vboot_tool.specs.declared.plan.Plan.{Plan}
 use Rattle.vboot_tool.specs.Page.{page_generation, next_cell, standing_record}

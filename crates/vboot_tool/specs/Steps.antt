@@ -1,5 +1,5 @@
 -- The three steps of a boot over its board: reading, changing and locking.
-use Rattle.std.specs.Prelude.{◌≡◌, ◌⊎◌, ℕ, ◌+◌, ◌≤◌, Bool, true, false, IsTrue, List, Option, Some, None, is_some, IsSome, Result, is_err, OnOk, OnErr, IfOk, IfErr, IsErr, if◌then◌else◌}
+use Rattle.std.specs.Prelude.{◌≡◌, ◌⊎◌, ℕ, ◌+◌, ◌≤◌, true, IsTrue, List, Option, Some, None, IsSome, Result, is_err, OnOk, OnErr, IfOk, IfErr}
 use Rattle.board_core.specs.declared.device.Device.{Device}
 use Rattle.board_core.specs.declared.device.Device.TheVariants as device
 use Rattle.board_core.specs.declared.device.Fault.{Fault}
@@ -9,10 +9,9 @@ use Rattle.board_core.specs.Flash.{FlashState}
 use Rattle.board_core.specs.Tpm.{TpmState, Spaces, Locks, unlocked, with_space}
 use Rattle.board_core.specs.Fault.{is_fault_of}
 use Rattle.board_core.specs.World.{World}
-use Rattle.vboot_tool.specs.declared.store.NvState.{NvState}
 use Rattle.vboot_tool.specs.declared.plan.Found.{Found}
 use Rattle.vboot_tool.specs.declared.plan.Plan.{Plan}
-use Rattle.vboot_tool.specs.Page.{page_generation, appended}
+use Rattle.vboot_tool.specs.Page.{appended}
 use Rattle.vboot_tool.specs.Store.{IsStateOf, changing_calls, KeepsWritten}
 use Rattle.vboot_tool.specs.Plan.{found_in}
 

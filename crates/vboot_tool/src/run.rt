@@ -69,7 +69,8 @@ fn is_recovery(words: &[String]) -> bool
     }
 }
 
-fn print<O: Sink>(out: &mut O, answer: &Answer) -> Status
+/// Prints the text of an answer, and answers the exit status.
+pub fn print<O: Sink>(out: &mut O, answer: &Answer) -> Status
     ensures { Prints answer.now (O.state out.old) (O.state out.new) result }
 {
     let text = answer.text();

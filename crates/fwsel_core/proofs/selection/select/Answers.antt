@@ -1,6 +1,6 @@
 -- Each of the six sets leaves the other fields, so each field has the value of the table.
-use Rattle.std.proofs.Common.{◌≡◌, ◌∙◌, rules}
-use Rattle.fwsel_core.proofs.FieldsAfter.{IsSet, fields_after}
+use Rattle.std.proofs.Common.{◌∙◌, rules}
+use Rattle.fwsel_core.proofs.FieldsAfter.{fields_after}
 use Rattle.fwsel_core.proofs.selection.select.Goals as goal
 
 pub returns-clause-each_field : goal.returns-clause-each_field

@@ -1,5 +1,5 @@
 -- The exits of a boot: a fault while reading, a full page, and a plan that is carried out.
-use Rattle.std.proofs.Common.{◌≡◌, ◌∙◌, ◌<◌, ◌≤◌, ◌≢◌, sym, arith}
+use Rattle.std.proofs.Common.{◌∙◌, ◌<◌, ◌≤◌, ◌≢◌, sym, arith}
 use Rattle.std.specs.Prelude.{IsSome}
 use Rattle.std.proofs.lemmas.Bool.{false≢true}
 use Rattle.vboot_tool.proofs.Booting.{boots_read_fault, boots_full, boots_carried}

@@ -1,5 +1,5 @@
 -- A recovery by hand changes nothing.
-use Rattle.std.proofs.Common.{◌≡◌, refl, inl, arith}
+use Rattle.std.proofs.Common.{refl, inl, arith}
 use Rattle.board_core.proofs.Stops.{made_none}
 use Rattle.vboot_tool.proofs.boot.carry_out.Goals as goal
 

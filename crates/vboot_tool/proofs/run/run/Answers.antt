@@ -1,4 +1,3 @@
-use Rattle.vboot_tool.specs.Run.{Runs}
 use Rattle.vboot_tool.proofs.Ending.{ends_of}
 use Rattle.vboot_tool.proofs.run.run.Goals as goal
 

@@ -1,5 +1,5 @@
 -- The write of the firmware space failed: nothing else was changed.
-use Rattle.std.proofs.Common.{◌≡◌, refl, arith}
+use Rattle.std.proofs.Common.{refl, arith}
 use Rattle.board_core.proofs.Stops.{made_none}
 use Rattle.vboot_tool.proofs.steps.make_changes.Goals as goal
 

@@ -1,4 +1,4 @@
-use Rattle.std.proofs.Common.{◌≡◌, ◌-◌, ◌∙◌, ap, sym, subst, true, false, zero, ℕ, List, Option, arith}
+use Rattle.std.proofs.Common.{◌≡◌, ◌-◌, ◌∙◌, ap, sym, subst, true, false, ℕ, List, arith}
 use Rattle.std.specs.Prelude.{IfSome}
 use Rattle.record_core.specs.Nv.{is_good_record}
 use Rattle.vboot_tool.specs.Page.{cell_of, last_good}

@@ -1,8 +1,8 @@
 -- The cell of an erased tail is erased, and what was programmed is the page with the record appended.
-use Rattle.std.proofs.Common.{◌≡◌, ◌∙◌, ◌+◌, ◌*◌, ℕ, List, true, false, ap, sym, arith, rules}
+use Rattle.std.proofs.Common.{◌≡◌, ◌∙◌, ◌+◌, ◌*◌, ℕ, true, false, ap, sym, arith, rules}
 use Rattle.std.specs.Prelude.{is_some}
 use Rattle.std.proofs.lemmas.Bool.{cond-true, cond-false}
-use Rattle.board_core.specs.Flash.{IsErased, spliced}
+use Rattle.board_core.specs.Flash.{spliced}
 use Rattle.vboot_tool.specs.Page.{page_generation, cell_of, next_cell, fresh_page, appended}
 use Rattle.vboot_tool.proofs.Stored.{tail_is_erased}
 use Rattle.vboot_tool.proofs.Saved.{on_ok_map, erased_of_test}

@@ -1,4 +1,4 @@
-use Rattle.std.proofs.Common.{◌≡◌, ◌∙◌, ◌++◌, List, ℕ, ap, sym}
+use Rattle.std.proofs.Common.{◌∙◌, ◌++◌, List, ℕ, ap, sym}
 use Rattle.vboot_tool.proofs.Decimal.{decimal-one, decimal-two, decimal-three}
 use Rattle.vboot_tool.proofs.text.Text.push_number.Goals as goal
 

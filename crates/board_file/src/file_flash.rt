@@ -1,6 +1,15 @@
 // A flash over a file, or any other stream with places. It tells no content: what a file keeps is not claimed.
+use crate::open_fault::OpenFault;
+use crate::place::put_in_place;
 use board_core::{Failed, Flash, make_erased_page, raise};
+use std::fs::{File, Files, OpenOptions};
+use std::io;
 use std::io::{Read, Seek, SeekFrom, Write};
+
+/// The file of the flash.
+pub const FLASH_FILE: &str = "flash.bin";
+
+const NEW_FLASH_FILE: &str = "flash.bin.new";
 
 /// A flash whose bytes are those of a stream. Each failure of the stream is counted.
 #[derive(Drop)]
@@ -27,6 +36,43 @@ impl<S> FileFlash<S> {
             failed_changes: 0,
         }
     }
+}
+
+/// The flash of the current folder, with the size of its file. A missing file is made of so many erased pages of 4,096
+/// bytes.
+///
+/// `OpenFault::CannotOpen`: it can be neither opened nor made, or has over 4,294,967,295 bytes.
+pub fn open_flash<R: Files>(files: &R, pages: u32) -> Result<FileFlash<R::File>, OpenFault> {
+    match open_or_make(files, pages) {
+        Ok(flash) => Ok(flash),
+        Err(_) => Err(OpenFault::CannotOpen(FLASH_FILE)),
+    }
+}
+
+fn open_or_make<R: Files>(files: &R, pages: u32) -> io::Result<FileFlash<R::File>> {
+    let mut options = OpenOptions::new();
+    options.read(true).write(true);
+    let mut file = match options.open(files, FLASH_FILE) {
+        Err(e) if e.kind() == io::ErrorKind::NotFound => {
+            make_erased(files, pages)?;
+            options.open(files, FLASH_FILE)?
+        }
+        opened => opened?,
+    };
+    let size = file.seek(SeekFrom::End(0))?;
+    match u32::try_from(size) {
+        Ok(size) => Ok(FileFlash::new(file, size)),
+        Err(_) => Err(io::Error::from(io::ErrorKind::InvalidData)),
+    }
+}
+
+fn make_erased<R: Files>(files: &R, pages: u32) -> io::Result<()> {
+    let mut file = File::create(files, NEW_FLASH_FILE)?;
+    let blank = make_erased_page();
+    for _ in 0..pages {
+        file.write_all(&blank)?;
+    }
+    put_in_place(files, file, NEW_FLASH_FILE, FLASH_FILE)
 }
 
 fn read_at<S: Read + Seek>(stream: &mut S, at: u64, buf: &mut [u8]) -> Result<(), Failed> {

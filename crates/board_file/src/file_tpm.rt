@@ -1,21 +1,23 @@
 // A TPM over two files of the current folder. It tells no content: what a file keeps is not claimed.
 ghost use Rattle.std.specs.Prelude.{◌≤◌, IfOk};
 
+use crate::open_fault::OpenFault;
+use crate::place::replace_file;
 use board_core::{Failed, Space, Tpm, raise};
 use std::fs::{File, Files};
+use std::io;
 use std::io::Read;
-use std::{fs, io};
 
 /// The greatest number of bytes of a space.
 const SPACE_SIZE: usize = 64;
 
-/// The file of the firmware space, and the new one that takes its place.
-const FIRMWARE_FILE: &str = "tpm_fw.bin";
+/// The file of the firmware space.
+pub const FIRMWARE_FILE: &str = "tpm_fw.bin";
 
 const NEW_FIRMWARE_FILE: &str = "tpm_fw.bin.new";
 
-/// The file of the kernel space, and the new one that takes its place.
-const KERNEL_FILE: &str = "tpm_kernel.bin";
+/// The file of the kernel space.
+pub const KERNEL_FILE: &str = "tpm_kernel.bin";
 
 const NEW_KERNEL_FILE: &str = "tpm_kernel.bin.new";
 
@@ -31,12 +33,15 @@ pub struct FileTpm<'a, R> {
 }
 
 impl<'a, R: Files> FileTpm<'a, R> {
-    /// A TPM over the files of the current folder, or the name of the first that cannot be opened or has over 64 bytes.
-    pub fn open(files: &'a R) -> Result<FileTpm<'a, R>, &'static str> {
+    /// The TPM of the current folder. No failure is counted yet.
+    ///
+    /// `OpenFault::CannotOpen`: the first of the two files, that of the firmware space before that of the kernel space,
+    /// which cannot be read or has over 64 bytes.
+    pub fn open(files: &'a R) -> Result<FileTpm<'a, R>, OpenFault> {
         let mut buf = [0; SPACE_SIZE];
         for space in [Space::Firmware, Space::Kernel] {
             if read_file(files, file_of(space), &mut buf).is_err() {
-                return Err(file_of(space));
+                return Err(OpenFault::CannotOpen(file_of(space)));
             }
         }
         Ok(FileTpm {
@@ -89,9 +94,7 @@ fn read_file<R: Files>(files: &R, name: &str, buf: &mut [u8; 64]) -> Result<usiz
 }
 
 fn write_file<R: Files>(files: &R, space: Space, bytes: &[u8]) -> Result<(), Failed> {
-    if fs::write(files, new_file_of(space), bytes).is_err()
-        || fs::rename(files, new_file_of(space), file_of(space)).is_err()
-    {
+    if replace_file(files, file_of(space), new_file_of(space), bytes).is_err() {
         return Err(Failed);
     }
     Ok(())

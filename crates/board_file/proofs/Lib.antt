@@ -1,0 +1,4 @@
+mod Checks
+pub mod Digits
+pub mod HookRows
+pub mod Tables

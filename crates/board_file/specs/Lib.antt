@@ -1,0 +1,2 @@
+pub mod HookFile
+pub mod HookAnswer

@@ -1,0 +1,106 @@
+// A hook over a file of accepted signatures. It tells no content: what a file keeps is not claimed.
+use crate::hook_file::read_hook;
+use crate::hook_file_fault::HookFileFault;
+use crate::hook_text::text_of_rows;
+use crate::open_fault::OpenFault;
+use crate::place::replace_file;
+use board_core::{EnrollFault, Failed, Hook, HookRow, MOST_ROWS, has_row, is_accepted, raise};
+use std::alloc::Global;
+use std::fs::Files;
+use std::{fs, io};
+
+/// The file of accepted signatures.
+pub const HOOK_FILE: &str = "hook.toml";
+
+const NEW_HOOK_FILE: &str = "hook.toml.new";
+
+/// The algorithms that a hook file can hold are those under this number.
+const ALGORITHM_COUNT: u32 = 18;
+
+/// A hook whose rows are those of a file, which is read when it is opened. A row that is enrolled makes the file anew and
+/// renames it, so that a stop leaves the old rows or the new ones; comments of the old file are not kept. Each failure of
+/// the file system is counted.
+#[derive(Drop)]
+pub struct FileHook<'a, R> {
+    files: &'a R,
+    alloc: Global,
+    rows: Vec<HookRow>,
+    faults: u64,
+}
+
+impl<'a, R: Files + AllocGlobal> FileHook<'a, R> {
+    /// The hook of the current folder. A missing file has no rows. No failure is counted yet.
+    ///
+    /// `OpenFault::CannotOpen`: the file cannot be read, or `read_hook` refuses it. `OpenFault::Memory`: there is none for
+    /// its text or its rows.
+    pub fn open(files: &'a R) -> Result<FileHook<'a, R>, OpenFault> {
+        Ok(FileHook {
+            files,
+            alloc: files.alloc(),
+            rows: read_rows(files)?,
+            faults: 0,
+        })
+    }
+}
+
+fn read_rows<R: Files + AllocGlobal>(files: &R) -> Result<Vec<HookRow>, OpenFault> {
+    let text = match fs::read_to_string(files, HOOK_FILE) {
+        Ok(text) => text,
+        Err(e) => {
+            return match e.kind() {
+                io::ErrorKind::NotFound => Ok(Vec::new(files.alloc())),
+                io::ErrorKind::OutOfMemory => Err(OpenFault::Memory),
+                _ => Err(OpenFault::CannotOpen(HOOK_FILE)),
+            };
+        }
+    };
+    match read_hook(files.alloc(), &text) {
+        Ok(rows) => Ok(rows),
+        Err(HookFileFault::BadHookFile(_)) => Err(OpenFault::CannotOpen(HOOK_FILE)),
+        Err(HookFileFault::Memory) => Err(OpenFault::Memory),
+    }
+}
+
+impl<R: Files> Hook for FileHook<'_, R> {
+    ghost use Rattle.std.specs.Prelude.{false};
+    ghost use Rattle.board_core.specs.Hook.{HookState};
+
+    ghost state = { λ hook. record { told = false; rows = hook.rows.items; faults = hook.faults } };
+
+    fn verify(
+        &mut self,
+        algorithm: u32,
+        key: &[u8],
+        digest: &[u8],
+        signature: &[u8],
+    ) -> Result<bool, Failed> {
+        Ok(is_accepted(&self.rows, algorithm, key, digest, signature))
+    }
+
+    fn enroll(&mut self, row: &HookRow) -> Result<(), EnrollFault> {
+        if has_row(&self.rows, row) {
+            return Ok(());
+        }
+        if self.rows.len() >= MOST_ROWS {
+            return Err(EnrollFault::Full);
+        }
+        if row.algorithm >= ALGORITHM_COUNT {
+            // The file could not be read again.
+            self.faults = raise(self.faults);
+            return Err(EnrollFault::Failed);
+        }
+        let Ok(_) = self.rows.reserve(1) else {
+            return Err(EnrollFault::Memory);
+        };
+        let Ok(text) = text_of_rows(self.alloc, &self.rows, row) else {
+            return Err(EnrollFault::Memory);
+        };
+        if replace_file(self.files, HOOK_FILE, NEW_HOOK_FILE, &text).is_err() {
+            self.faults = raise(self.faults);
+            return Err(EnrollFault::Failed);
+        }
+        // There is room for it.
+        let _ = self.rows.push(*row);
+        Ok(())
+    }
+}

@@ -1,0 +1,31 @@
+//! The devices of a board over files of the current folder, and over standard input and output.
+//!
+//! - `file_flash`, `file_tpm`, `file_hook`, `std_source` and `std_sink` have a device each. They tell no content: what a
+//!   file keeps is not claimed. Each counts its failures.
+//! - `hook_file` reads the file of accepted signatures, `hook_file_fault` says why it did not, and `hook_text` writes it.
+//! - `place` makes a file anew, and `open_fault` says why one was not opened.
+#![tactic(auto)]
+
+mod file_flash;
+mod file_hook;
+mod file_tpm;
+mod hook_file;
+mod hook_file_fault;
+#[cfg(test)]
+mod hook_file_tests;
+mod hook_text;
+mod open_fault;
+mod place;
+mod std_sink;
+mod std_source;
+#[cfg(test)]
+mod tests;
+
+pub use file_flash::{FLASH_FILE, FileFlash, open_flash};
+pub use file_hook::{FileHook, HOOK_FILE};
+pub use file_tpm::{FIRMWARE_FILE, FileTpm, KERNEL_FILE};
+pub use hook_file::read_hook;
+pub use hook_file_fault::HookFileFault;
+pub use open_fault::OpenFault;
+pub use std_sink::StdSink;
+pub use std_source::StdSource;

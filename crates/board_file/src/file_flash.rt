@@ -1,4 +1,6 @@
 // A flash over a file, or any other stream with places. It tells no content: what a file keeps is not claimed.
+ghost use Rattle.std.specs.Prelude.{◌≡◌, IfOk};
+
 use crate::open_fault::OpenFault;
 use crate::place::put_in_place;
 use board_core::{Failed, Flash, make_erased_page, raise};
@@ -21,8 +23,6 @@ pub struct FileFlash<S> {
 }
 
 impl<S> FileFlash<S> {
-    ghost use Rattle.std.specs.Prelude.{◌≡◌};
-
     /// A flash of so many bytes, which are the first of the stream. No failure is counted yet.
     pub fn new(stream: S, size: u32) -> FileFlash<S>
         ensures size { result.size ≡ size }
@@ -38,18 +38,22 @@ impl<S> FileFlash<S> {
     }
 }
 
-/// The flash of the current folder, with the size of its file. A missing file is made of so many erased pages of 4,096
-/// bytes.
+/// The flash of the current folder, with the size of its file, and no failure counted yet. A missing file is made of so
+/// many erased pages of 4,096 bytes.
 ///
 /// `OpenFault::CannotOpen`: it can be neither opened nor made, or has over 4,294,967,295 bytes.
-pub fn open_flash<R: Files>(files: &R, pages: u32) -> Result<FileFlash<R::File>, OpenFault> {
+pub fn open_flash<R: Files>(files: &R, pages: u32) -> Result<FileFlash<R::File>, OpenFault>
+    ensures counts { IfOk result (λ flash. (flash.faults ≡ 0) × (flash.failed_changes ≡ 0)) }
+{
     match open_or_make(files, pages) {
         Ok(flash) => Ok(flash),
         Err(_) => Err(OpenFault::CannotOpen(FLASH_FILE)),
     }
 }
 
-fn open_or_make<R: Files>(files: &R, pages: u32) -> io::Result<FileFlash<R::File>> {
+fn open_or_make<R: Files>(files: &R, pages: u32) -> io::Result<FileFlash<R::File>>
+    ensures counts { IfOk result (λ flash. (flash.faults ≡ 0) × (flash.failed_changes ≡ 0)) }
+{
     let mut options = OpenOptions::new();
     options.read(true).write(true);
     let mut file = match options.open(files, FLASH_FILE) {

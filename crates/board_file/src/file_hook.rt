@@ -1,4 +1,7 @@
-// A hook over a file of accepted signatures. It tells no content: what a file keeps is not claimed.
+// A hook over a file of accepted signatures. It tells the rows by which it answers: those that were read from the file
+// when it was opened, and those that were enrolled since. What the file keeps is not claimed.
+ghost use Rattle.std.specs.Prelude.{◌≡◌, ◌≤◌, vec_len, IfOk};
+
 use crate::hook_file::read_hook;
 use crate::hook_file_fault::HookFileFault;
 use crate::hook_text::text_of_rows;
@@ -26,6 +29,7 @@ pub struct FileHook<'a, R> {
     alloc: Global,
     rows: Vec<HookRow>,
     faults: u64,
+    ghost few: { vec_len rows ≤ 4096 },
 }
 
 impl<'a, R: Files + AllocGlobal> FileHook<'a, R> {
@@ -33,7 +37,9 @@ impl<'a, R: Files + AllocGlobal> FileHook<'a, R> {
     ///
     /// `OpenFault::CannotOpen`: the file cannot be read, or `read_hook` refuses it. `OpenFault::Memory`: there is none for
     /// its text or its rows.
-    pub fn open(files: &'a R) -> Result<FileHook<'a, R>, OpenFault> {
+    pub fn open(files: &'a R) -> Result<FileHook<'a, R>, OpenFault>
+        ensures counts { IfOk result (λ hook. hook.faults ≡ 0) }
+    {
         Ok(FileHook {
             files,
             alloc: files.alloc(),
@@ -43,7 +49,9 @@ impl<'a, R: Files + AllocGlobal> FileHook<'a, R> {
     }
 }
 
-fn read_rows<R: Files + AllocGlobal>(files: &R) -> Result<Vec<HookRow>, OpenFault> {
+fn read_rows<R: Files + AllocGlobal>(files: &R) -> Result<Vec<HookRow>, OpenFault>
+    ensures few { IfOk result (λ rows. vec_len rows ≤ 4096) }
+{
     let text = match fs::read_to_string(files, HOOK_FILE) {
         Ok(text) => text,
         Err(e) => {
@@ -62,10 +70,10 @@ fn read_rows<R: Files + AllocGlobal>(files: &R) -> Result<Vec<HookRow>, OpenFaul
 }
 
 impl<R: Files> Hook for FileHook<'_, R> {
-    ghost use Rattle.std.specs.Prelude.{false};
+    ghost use Rattle.std.specs.Prelude.{true};
     ghost use Rattle.board_core.specs.Hook.{HookState};
 
-    ghost state = { λ hook. record { told = false; rows = hook.rows.items; faults = hook.faults } };
+    ghost state = { λ hook. record { told = true; rows = hook.rows.items; faults = hook.faults } };
 
     fn verify(
         &mut self,

@@ -1,5 +1,5 @@
 // A TPM over two files of the current folder. It tells no content: what a file keeps is not claimed.
-ghost use Rattle.std.specs.Prelude.{◌≤◌, IfOk};
+ghost use Rattle.std.specs.Prelude.{◌≡◌, ◌≤◌, false, IfOk};
 
 use crate::open_fault::OpenFault;
 use crate::place::replace_file;
@@ -33,11 +33,14 @@ pub struct FileTpm<'a, R> {
 }
 
 impl<'a, R: Files> FileTpm<'a, R> {
-    /// The TPM of the current folder. No failure is counted yet.
+    /// The TPM of the current folder, with both spaces unlocked. No failure is counted yet.
     ///
     /// `OpenFault::CannotOpen`: the first of the two files, that of the firmware space before that of the kernel space,
     /// which cannot be read or has over 64 bytes.
-    pub fn open(files: &'a R) -> Result<FileTpm<'a, R>, OpenFault> {
+    pub fn open(files: &'a R) -> Result<FileTpm<'a, R>, OpenFault>
+        ensures counts { IfOk result (λ tpm. (tpm.faults ≡ 0) × (tpm.failed_changes ≡ 0)) }
+        ensures unlocked { IfOk result (λ tpm. (tpm.is_firmware_locked ≡ false) × (tpm.is_kernel_locked ≡ false)) }
+    {
         let mut buf = [0; SPACE_SIZE];
         for space in [Space::Firmware, Space::Kernel] {
             if read_file(files, file_of(space), &mut buf).is_err() {

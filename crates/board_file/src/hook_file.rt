@@ -5,7 +5,7 @@
 //     key = "64 hexadecimal digits"
 //     digest = "64 or 128 hexadecimal digits"
 //     signature = "64 hexadecimal digits"
-ghost use Rattle.std.specs.Prelude.{◌≡◌, ◌<◌, vec_len, ◌-◌, ◌/◌, ◌≤◌, length, take, drop, map, replicate, option_map, IfSome, IsTrue, IsOk};
+ghost use Rattle.std.specs.Prelude.{◌≡◌, ◌<◌, vec_len, ◌-◌, ◌/◌, ◌≤◌, length, take, drop, map, replicate, option_map, IfSome, IsTrue, IsOk, IfOk};
 ghost use Rattle.toml.specs.Errors.{IsBlank};
 ghost use Rattle.toml.specs.Data.{get_member};
 ghost use Rattle.toml.specs.View.{view, table_view};
@@ -39,6 +39,7 @@ const LONG_DIGITS: usize = 128;
 #[tactic(auto, using(crate::proofs::Tables::no_members_blank), unfolding(crate::specs::HookFile::hook_file))]
 pub fn read_hook(alloc: Global, text: &str) -> Result<Vec<HookRow>, HookFileFault>
     ensures meant { Answers (hook_file text.now) result }
+    ensures few { IfOk result (λ rows. vec_len rows ≤ 4096) }
     ensures blank { IsBlank text.now → IsOk result }
 {
     match toml::table_from_str(alloc, text) {
@@ -57,6 +58,7 @@ pub fn read_hook(alloc: Global, text: &str) -> Result<Vec<HookRow>, HookFileFaul
 #[tactic(auto, using(crate::proofs::Tables::members_count_view), unfolding(crate::specs::HookFile::hook_of, crate::specs::HookFile::elements_of))]
 fn rows_of_table(alloc: Global, table: &Table) -> Result<Vec<HookRow>, HookFileFault>
     ensures meant { Answers (hook_of (table_view table.now)) result }
+    ensures few { IfOk result (λ rows. vec_len rows ≤ 4096) }
     ensures empty { members_count (table_view table.now) ≡ 0 → IsOk result }
 {
     if table.is_empty() {
@@ -89,7 +91,8 @@ fn elements_of_table(table: &Table) -> Option<&Array>
 // The rows of an array's elements, or the number of the first that is none.
 fn rows_of_elements(alloc: Global, elements: &[Value]) -> Result<Vec<HookRow>, HookFileFault>
     requires { length elements.now ≤ 4096 }
-    ensures { Answers (rows_of (map view elements.now)) result }
+    ensures meant { Answers (rows_of (map view elements.now)) result }
+    ensures few { IfOk result (λ rows. vec_len rows ≤ 4096) }
 {
     let Ok(mut rows) = Vec::with_capacity(alloc, elements.len()) else {
         return Err(HookFileFault::Memory);

@@ -1,7 +1,7 @@
 //! The devices of a board over files of the current folder, and over standard input and output.
 //!
-//! - `file_flash`, `file_tpm`, `file_hook`, `std_source` and `std_sink` have a device each. They tell no content: what a
-//!   file keeps is not claimed. Each counts its failures.
+//! - `file_flash`, `file_tpm`, `file_hook`, `std_source` and `std_sink` have a device each, which counts its failures. They
+//!   tell no content, but for the rows in memory of a hook: what a file keeps is not claimed.
 //! - `hook_file` reads the file of accepted signatures, `hook_file_fault` says why it did not, and `hook_text` writes it.
 //! - `place` makes a file anew, and `open_fault` says why one was not opened.
 #![tactic(auto)]

@@ -1,5 +1,5 @@
 -- What a failed change of a disk left torn, as the log of the disk or the log of a fuse over it notes it.
-use Rattle.std.proofs.Common.{◌≡◌, ◌⊎◌, ℕ, zero, suc, ◌+◌, ◌-◌, ◌*◌, ◌/◌, ◌%◌, ◌≤◌, min, List, [], ◌∷◌, ◌++◌, length, take, drop, OnOk, OnErr, Result, Ok, Err, inl, inr, refl, sym, ap, ◌∙◌, subst, arith, length-append, length-take, length-drop}
+use Rattle.std.proofs.Common.{◌≡◌, ℕ, zero, suc, ◌+◌, ◌-◌, ◌*◌, ◌/◌, ◌%◌, ◌≤◌, min, List, [], ◌∷◌, ◌++◌, length, take, drop, refl, sym, ap, ◌∙◌, subst, arith, length-append, length-take, length-drop}
 use Rattle.std.proofs.lemmas.List.{take_all, take-take, take-append-le, take_at, drop_at, drop_all, drop-take, append-nil}
 use Rattle.std.proofs.lemmas.List.Elements.{All-take}
 use Rattle.std.proofs.Math.Seq.{take-append-add}
@@ -7,7 +7,7 @@ use Rattle.std.specs.Prelude.{All}
 use Rattle.board_core.specs.declared.torn.Torn.{Torn}
 use Rattle.board_core.specs.Torn.{Logs, Grown, added, torn_piece, torn_pieces, torn_records}
 use Rattle.board_core.specs.Flash.{range}
-use Rattle.board_core.specs.Disk.{DiskMedium, LeftDiskTorn, LeftDisk, Flushed, overlaid, IsSectorOf, AreRecordsOf, write_records}
+use Rattle.board_core.specs.Disk.{DiskMedium, LeftDiskTorn, overlaid, IsSectorOf, AreRecordsOf, write_records}
 use Rattle.board_core.specs.FuseDiskParts.{with_disk_log}
 use Rattle.board_core.proofs.Overlays.{overlaid-append, overlaid-again, overlaid-front}
 use Rattle.board_core.proofs.TornRange.{grown_same, added_same, grown_one, added_one}
@@ -99,28 +99,6 @@ left_disk_torn_uncounted pending own old new before after left_torn = record {
 pub left_disk_torn_refused : (own : List Torn) (medium : DiskMedium) (log : List Torn) → medium.writes ≡ [] → LeftDiskTorn medium.writes own (with_disk_log medium log) (with_disk_log medium log)
 left_disk_torn_refused own medium log settled =
     left_disk_torn_noted medium.writes own [] 0 medium medium log log (omega arith) refl (sym (append-nil log)) (subst (λ (writes : List Torn). AreRecordsOf (writes ++ []) []) (sym settled) tt) refl settled
-
--- ---- a failed write, which may leave nothing torn
-
--- the disk below noted it, if anything
-pub left_disk_with_log : (pending own : List Torn) (old new : DiskMedium) (log : List Torn) → LeftDisk pending own old new → LeftDisk pending own (with_disk_log old log) (with_disk_log new log)
-left_disk_with_log pending own old new log (inl left_torn) = inl (left_disk_torn_with_log pending own old new log left_torn)
-left_disk_with_log pending own old new log (inr flushed) = inr (record { bytes = flushed.bytes; writes = flushed.writes; torn = ap (λ (t : Logs). t ++ log ∷ []) flushed.torn })
-
--- the number of sectors read before it and after it does not matter
-pub left_disk_counted : (pending own : List Torn) (old new : DiskMedium) (before after : ℕ) → LeftDisk pending own old new → LeftDisk pending own (record old { sectors_read = before }) (record new { sectors_read = after })
-left_disk_counted pending own old new before after (inl left_torn) = inl (left_disk_torn_counted pending own old new before after left_torn)
-left_disk_counted pending own old new before after (inr flushed) = inr (record { bytes = flushed.bytes; writes = flushed.writes; torn = flushed.torn })
-
--- the same, the other way
-pub left_disk_uncounted : (pending own : List Torn) (old new : DiskMedium) (before after : ℕ) → LeftDisk pending own (record old { sectors_read = before }) (record new { sectors_read = after }) → LeftDisk pending own old new
-left_disk_uncounted pending own old new before after (inl left_torn) = inl (left_disk_torn_uncounted pending own old new before after left_torn)
-left_disk_uncounted pending own old new before after (inr flushed) = inr (record { bytes = flushed.bytes; writes = flushed.writes; torn = flushed.torn })
-
--- a flush in its place, whatever that answered
-pub left_disk_flush : {E : Type 0} (own : List Torn) (old new : DiskMedium) (answer : Result Unit E) → OnOk answer (Flushed old new) → OnErr answer (LeftDiskTorn old.writes [] old new) → LeftDisk old.writes own old new
-left_disk_flush own old new (Ok done) flushed left_torn = inr flushed
-left_disk_flush own old new (Err failure) flushed left_torn = inl (left_disk_torn_none old.writes own old new left_torn)
 
 -- ---- the parts of a chosen write
 
@@ -247,21 +225,3 @@ left_disk_torn_from pending own old old' new bytes torn left_torn = record {
   noted = subst (λ (t : Logs). AreRecordsOf (pending ++ take left_torn.count own) (added t new.torn)) (sym torn) left_torn.noted;
   writes_end = left_torn.writes_end;
 }
-
--- ---- several calls, where the last is a failed write
-
--- a run that had more writes to make, and touched none of them
-pub left_disk_more : (own more : List Torn) (old new : DiskMedium) → LeftDisk [] own old new → LeftDisk [] (own ++ more) old new
-left_disk_more own more old new (inl left_torn) = inl (left_disk_torn_more own more old new left_torn)
-left_disk_more own more old new (inr flushed) = inr flushed
-
--- what is left depends only on the bytes and the records before
-pub left_disk_from : (pending own : List Torn) (old old' new : DiskMedium) → old'.bytes ≡ old.bytes → old'.torn ≡ old.torn → LeftDisk pending own old new → LeftDisk pending own old' new
-left_disk_from pending own old old' new bytes torn (inl left_torn) = inl (left_disk_torn_from pending own old old' new bytes torn left_torn)
-left_disk_from pending own old old' new bytes torn (inr flushed) = inr (record { bytes = flushed.bytes ∙ sym bytes; writes = flushed.writes; torn = flushed.torn ∙ sym torn })
-
--- A failed write after writes that were pending is one failed change over them all. Or it was not made, and they are whole.
-pub left_disk_run : (size : ℕ) (writes own : List Torn) (old mid new : DiskMedium) → length old.bytes ≡ size → All (IsSectorOf size) writes → All (IsSectorOf size) own → mid.bytes ≡ overlaid old.bytes writes → mid.torn ≡ old.torn → mid.writes ≡ writes
-    → LeftDisk mid.writes own mid new → LeftDiskTorn [] (writes ++ own) old new ⊎ Flushed (record old { bytes = mid.bytes }) new
-left_disk_run size writes own old mid new whole sectors others bytes torn pending (inl left_torn) = inl (left_disk_torn_run size writes own old mid new whole sectors others bytes torn pending left_torn)
-left_disk_run size writes own old mid new whole sectors others bytes torn pending (inr flushed) = inr (record { bytes = flushed.bytes; writes = flushed.writes; torn = flushed.torn ∙ torn })

@@ -1,5 +1,5 @@
 -- What the parts of a fuse's calls make of the disk below and of the fuse's list and log.
-use Rattle.std.proofs.Common.{◌≡◌, ℕ, ◌+◌, ◌*◌, ◌/◌, ◌%◌, ◌≤◌, List, [], ◌∷◌, ◌++◌, length, take, drop, IsTrue, inl, inr, refl, sym, ap, ◌∙◌, subst, arith, append_assoc, length-append, length-take, length-drop}
+use Rattle.std.proofs.Common.{◌≡◌, ℕ, ◌+◌, ◌*◌, ◌/◌, ◌%◌, ◌≤◌, List, [], ◌∷◌, ◌++◌, length, take, drop, IsTrue, refl, sym, ap, ◌∙◌, subst, arith, append_assoc, length-append, length-take, length-drop}
 use Rattle.std.proofs.lemmas.List.{take_all}
 use Rattle.std.proofs.lemmas.List.Elements.{All-nil, All-append}
 use Rattle.std.proofs.lemmas.Result.{on_ok_weaker, on_err_weaker}
@@ -15,11 +15,11 @@ use Rattle.board_core.specs.declared.counters.FuseState.TheVariants.{Unarmed}
 use Rattle.board_core.specs.FuseDisk.{state_below, PassesWrite}
 use Rattle.board_core.specs.Torn.{Logs, torn_records}
 use Rattle.board_core.specs.Flash.{range, spliced}
-use Rattle.board_core.specs.Disk.{DiskMedium, DiskState, LeftDiskTorn, LeftDisk, ReadsDisk, WritesDisk, Flushes, Flushed, advanced, overlaid, IsSectorOf, AreRecordsOf, write_records}
+use Rattle.board_core.specs.Disk.{DiskMedium, DiskState, LeftDiskTorn, ReadsDisk, WritesDisk, Flushes, Flushed, advanced, overlaid, IsSectorOf, AreRecordsOf, write_records}
 use Rattle.board_core.specs.FuseDiskParts.{with_disk_log, Mirrors, WritesContent, WritesAfterRead}
 use Rattle.board_core.proofs.TornRange.{spliced_tail}
 use Rattle.board_core.proofs.Overlays.{overlaid-append, overlaid-again, overlaid-range, records_of-same, records_of-range, records_of-append, sectors_of-range, length-torn_records}
-use Rattle.board_core.proofs.DiskTorn.{left_disk_torn_noted, left_disk_torn_counted, left_disk_torn_uncounted, left_disk_torn_with_log, left_disk_torn_front, left_disk_with_log, left_disk_counted, left_disk_uncounted, records-front}
+use Rattle.board_core.proofs.DiskTorn.{left_disk_torn_noted, left_disk_torn_counted, left_disk_torn_uncounted, left_disk_torn_with_log, left_disk_torn_front, left_disk_torn_refused, records-front}
 
 -- a failure carries no more than that it is one
 same_answer : (a b : Result Unit Failed) → is_err a ≡ is_err b → a ≡ b
@@ -114,19 +114,18 @@ left_disk_torn_read lba meant old mid new n log log' same left_torn =
     left_disk_torn_uncounted old.writes (write_records lba meant old) (with_disk_log old log) (with_disk_log new log') n new.sectors_read
     (subst (λ (m : DiskMedium). LeftDiskTorn m.writes (write_records lba meant m) (with_disk_log m log) (with_disk_log new log')) same left_torn)
 
--- the same of a failed write
-pub left_disk_read : (lba : ℕ) (meant : List ℕ) (old mid new : DiskMedium) (n : ℕ) → mid ≡ record old { sectors_read = n }
-    → LeftDisk mid.writes (write_records lba meant mid) mid new → LeftDisk old.writes (write_records lba meant old) old new
-left_disk_read lba meant old mid new n same left =
-    left_disk_uncounted old.writes (write_records lba meant old) old new n new.sectors_read (subst (λ (m : DiskMedium). LeftDisk m.writes (write_records lba meant m) m new) same left)
+-- the same of the disk below, which notes it
+pub left_disk_torn_read_below : (lba : ℕ) (meant : List ℕ) (old mid new : DiskMedium) (n : ℕ) → mid ≡ record old { sectors_read = n }
+    → LeftDiskTorn mid.writes (write_records lba meant mid) mid new → LeftDiskTorn old.writes (write_records lba meant old) old new
+left_disk_torn_read_below lba meant old mid new n same left_torn =
+    left_disk_torn_uncounted old.writes (write_records lba meant old) old new n new.sectors_read (subst (λ (m : DiskMedium). LeftDiskTorn m.writes (write_records lba meant m) m new) same left_torn)
 
 -- the disk failed in the first sectors of the chosen write, or in the flush after them
-pub left_disk_part : (lba kept : ℕ) (meant : List ℕ) (old new : DiskMedium) → kept % 512 ≡ 0 → kept ≤ length meant → length meant % 512 ≡ 0 → lba * 512 + length meant ≤ length old.bytes
-    → LeftDisk old.writes (write_records lba (take kept meant) old) old new → LeftDisk old.writes (write_records lba meant old) old new
-left_disk_part lba kept meant old new sectors within whole inside (inl left_torn) =
-    inl (left_disk_torn_front old.writes (write_records lba meant old) (kept / 512) old new
-    (subst (λ (own : List Torn). LeftDiskTorn old.writes own old new) (records-front lba kept meant old sectors within whole inside) left_torn))
-left_disk_part lba kept meant old new sectors within whole inside (inr flushed) = inr flushed
+pub left_disk_torn_part : (lba kept : ℕ) (meant : List ℕ) (old new : DiskMedium) → kept % 512 ≡ 0 → kept ≤ length meant → length meant % 512 ≡ 0 → lba * 512 + length meant ≤ length old.bytes
+    → LeftDiskTorn old.writes (write_records lba (take kept meant) old) old new → LeftDiskTorn old.writes (write_records lba meant old) old new
+left_disk_torn_part lba kept meant old new sectors within whole inside left_torn =
+    left_disk_torn_front old.writes (write_records lba meant old) (kept / 512) old new
+    (subst (λ (own : List Torn). LeftDiskTorn old.writes own old new) (records-front lba kept meant old sectors within whole inside) left_torn)
 
 none_left : (writes : List Torn) → length writes ≡ 0 → writes ≡ []
 none_left [] none = refl
@@ -157,19 +156,30 @@ pub reads_disk_passed : {E : Type 0} (lba : ℕ) (buf : List ℕ) (below below' 
     → Observed old new (is_err result) → n ≤ n' → n' ≤ advanced n (length buf / 512) → OnOk answer (n' ≡ advanced n (length buf / 512)) → ReadsDisk lba buf (disk_state_over below.medium log n old) (disk_state_over below'.medium log n' new) result
 reads_disk_passed lba buf below below' log n n' old new answer result reads same observed no_fewer no_more all = record {
   counters = observed;
-  medium = ap (λ (m : DiskMedium). record (with_disk_log m log) { sectors_read = n' }) reads.medium;
+  sectors = reads.sectors;
+  told = reads.told;
+  ok = rw same (on_ok_weaker answer (ap (λ (m : DiskMedium). record (with_disk_log m log) { sectors_read = n' })) reads.ok);
+  none_pending = rw same reads.none_pending;
+  bytes = reads.bytes;
+  err = λ told. rw same (on_err_weaker answer (λ (torn : LeftDiskTorn below.medium.writes [] below.medium below'.medium). left_disk_torn_counted below.medium.writes [] (with_disk_log below.medium log) (with_disk_log below'.medium log) n n'
+      (left_disk_torn_with_log below.medium.writes [] below.medium below'.medium log torn)) (reads.err told));
   no_fewer = λ told. no_fewer;
   no_more = λ told. no_more;
   all_read = λ told. rw same all;
-  filled = rw same reads.filled;
+  filled = λ told. rw same (reads.filled told);
 }
 
--- a read that a dead fuse refused
+-- a read that a dead fuse refused, below which nothing is pending
 pub reads_disk_failed : {E : Type 0} (lba : ℕ) (buf : List ℕ) (medium : DiskMedium) (log : List Torn) (n : ℕ) (old new : Counters) (failure : E) (result : Result Unit E) → result ≡ Err failure → Observed old new (is_err result)
-    → n ≤ 2 ^ 64 - 1 → ReadsDisk lba buf (disk_state_over medium log n old) (disk_state_over medium log n new) result
-reads_disk_failed lba buf medium log n old new failure result failed observed fits = record {
+    → n ≤ 2 ^ 64 - 1 → medium.pending ≡ 0 → (IsTrue medium.told → medium.writes ≡ []) → ReadsDisk lba buf (disk_state_over medium log n old) (disk_state_over medium log n new) result
+reads_disk_failed lba buf medium log n old new failure result failed observed fits none settled = record {
   counters = observed;
-  medium = refl;
+  sectors = refl;
+  told = refl;
+  ok = rw failed tt;
+  none_pending = rw failed none;
+  bytes = λ told. refl;
+  err = λ told. rw failed (left_disk_torn_counted medium.writes [] (with_disk_log medium log) (with_disk_log medium log) n n (left_disk_torn_refused [] medium log (settled told)));
   no_fewer = λ told. omega arith;
   no_more = λ told. omega arith;
   all_read = λ told. rw failed tt;
@@ -202,15 +212,15 @@ writes_disk_content lba meant old new log n before after answer result content s
   bytes = λ told. rw same (content.bytes told);
   writes = λ told. rw same (content.writes told);
   torn = λ told. rw same (on_ok_weaker answer (ap (λ (t : Logs). t ++ log ∷ [])) (content.torn told));
-  err = λ told. rw same (on_err_weaker answer (λ (left : LeftDisk old.writes (write_records lba meant old) old new). left_disk_counted old.writes (write_records lba meant old) (with_disk_log old log) (with_disk_log new log) n n
-      (left_disk_with_log old.writes (write_records lba meant old) old new log left)) (content.err told));
+  err = λ told. rw same (on_err_weaker answer (λ (left_torn : LeftDiskTorn old.writes (write_records lba meant old) old new). left_disk_torn_counted old.writes (write_records lba meant old) (with_disk_log old log) (with_disk_log new log) n n
+      (left_disk_torn_with_log old.writes (write_records lba meant old) old new log left_torn)) (content.err told));
 }
 
 -- a write that the fuse refused or cut short
 pub writes_disk_failed : {E : Type 0} (lba : ℕ) (meant : List ℕ) (old new : DiskMedium) (log log' : List Torn) (n : ℕ) (before after : Counters) (failure : E) (result : Result Unit E) → result ≡ Err failure → Changed before after (is_err result)
-    → new.sectors ≡ old.sectors → new.told ≡ old.told → new.pending ≡ 0 → (IsTrue old.told → LeftDisk old.writes (write_records lba meant old) (with_disk_log old log) (with_disk_log new log'))
+    → new.sectors ≡ old.sectors → new.told ≡ old.told → new.pending ≡ 0 → (IsTrue old.told → LeftDiskTorn old.writes (write_records lba meant old) (with_disk_log old log) (with_disk_log new log'))
     → WritesDisk lba meant (disk_state_over old log n before) (disk_state_over new log' n after) result
-writes_disk_failed lba meant old new log log' n before after failure result failed changed sectors told none left = record {
+writes_disk_failed lba meant old new log log' n before after failure result failed changed sectors told none left_torn = record {
   counters = changed;
   sectors = sectors;
   told = told;
@@ -220,7 +230,7 @@ writes_disk_failed lba meant old new log log' n before after failure result fail
   bytes = λ tells. rw failed tt;
   writes = λ tells. rw failed tt;
   torn = λ tells. rw failed tt;
-  err = λ tells. rw failed (left_disk_counted old.writes (write_records lba meant old) (with_disk_log old log) (with_disk_log new log') n n (left tells));
+  err = λ tells. rw failed (left_disk_torn_counted old.writes (write_records lba meant old) (with_disk_log old log) (with_disk_log new log') n n (left_torn tells));
 }
 
 -- a flush that answered Ok, seen through a fuse

@@ -1,5 +1,5 @@
 -- What a disk is, and what each call does to it.
-use Rattle.std.specs.Prelude.{◌≡◌, ◌⊎◌, ℕ, ◌+◌, ◌*◌, ◌/◌, ◌-◌, ◌^◌, ◌≤◌, min, List, [], ◌∷◌, ◌++◌, length, take, Bool, IsTrue, Result, is_err, OnOk, OnErr}
+use Rattle.std.specs.Prelude.{◌≡◌, ℕ, ◌+◌, ◌*◌, ◌/◌, ◌-◌, ◌^◌, ◌≤◌, min, List, [], ◌∷◌, ◌++◌, length, take, Bool, IsTrue, Result, is_err, OnOk, OnErr}
 use Rattle.board_core.specs.declared.counters.Counters.{Counters}
 use Rattle.board_core.specs.declared.torn.Torn.{Torn}
 use Rattle.board_core.specs.Counters.{Observed, Changed}
@@ -61,8 +61,8 @@ AreRecordsOf [] [] = Unit {0}
 AreRecordsOf (write ∷ writes) (torn ∷ rest) = IsRecordOf write torn × AreRecordsOf writes rest
 AreRecordsOf writes torn = ⊥
 
--- A change that failed, over the writes that were pending and its own. Any bytes may stand in each sector that was
--- pending and in the first ones of its own, and each of them is noted. Nothing is pending after it.
+-- A call that failed, over the writes that were pending and its own. Any bytes may stand in each sector that was pending
+-- and in the first ones of its own, and each of them is noted. Nothing is pending after it.
 pub record LeftDiskTorn (pending own : List Torn) (old new : DiskMedium) : Type 0 where
   -- how many sectors of its own it may have touched, from the first on
   pub count : ℕ
@@ -74,22 +74,19 @@ pub record LeftDiskTorn (pending own : List Torn) (old new : DiskMedium) : Type 
   pub noted : AreRecordsOf (pending ++ take count own) (added old.torn new.torn)
   pub writes_end : new.writes ≡ []
 
--- All writes so far last, no byte changed and nothing was noted.
-pub record Flushed (old new : DiskMedium) : Type 0 where
-  pub bytes : new.bytes ≡ old.bytes
-  pub writes : new.writes ≡ []
-  pub torn : new.torn ≡ old.torn
-
--- What a failed write leaves: torn sectors, or, where it was not made, what a flush leaves that answered Ok.
-abbrev pub LeftDisk : List Torn → List Torn → DiskMedium → DiskMedium → Type 0
-LeftDisk pending own old new = LeftDiskTorn pending own old new ⊎ Flushed old new
-
 -- ---- the calls
 
--- The call to read sectors. It changes only the number of sectors read.
+-- The call to read sectors. No byte changes. A read that answers Ok changes only the number of sectors read, and a failed
+-- one ends what was pending.
 pub record ReadsDisk {E : Type 0} (lba : ℕ) (buf : List ℕ) (old new : DiskState) (result : Result Unit E) : Type 0 where
   pub counters : Observed old.counters new.counters (is_err result)
-  pub medium : new.medium ≡ record old.medium { sectors_read = new.medium.sectors_read }
+  pub sectors : new.medium.sectors ≡ old.medium.sectors
+  pub told : new.medium.told ≡ old.medium.told
+  pub ok : OnOk result (new.medium ≡ record old.medium { sectors_read = new.medium.sectors_read })
+  pub none_pending : OnErr result (new.medium.pending ≡ 0)
+  pub bytes : IsTrue old.medium.told → new.medium.bytes ≡ old.medium.bytes
+  -- a failed read notes each sector that was pending
+  pub err : IsTrue old.medium.told → OnErr result (LeftDiskTorn old.medium.writes [] old.medium new.medium)
   -- the number of sectors read does not fall
   pub no_fewer : IsTrue old.medium.told → old.medium.sectors_read ≤ new.medium.sectors_read
   -- it rises by no more than the sectors that were asked for
@@ -114,7 +111,13 @@ pub record WritesDisk {E : Type 0} (lba : ℕ) (meant : List ℕ) (old new : Dis
   pub bytes : IsTrue old.medium.told → OnOk result (new.medium.bytes ≡ spliced old.medium.bytes (lba * 512) meant)
   pub writes : IsTrue old.medium.told → OnOk result (new.medium.writes ≡ old.medium.writes ++ write_records lba meant old.medium)
   pub torn : IsTrue old.medium.told → OnOk result (new.medium.torn ≡ old.medium.torn)
-  pub err : IsTrue old.medium.told → OnErr result (LeftDisk old.medium.writes (write_records lba meant old.medium) old.medium new.medium)
+  pub err : IsTrue old.medium.told → OnErr result (LeftDiskTorn old.medium.writes (write_records lba meant old.medium) old.medium new.medium)
+
+-- A flush that answered Ok: all writes so far last.
+pub record Flushed (old new : DiskMedium) : Type 0 where
+  pub bytes : new.bytes ≡ old.bytes
+  pub writes : new.writes ≡ []
+  pub torn : new.torn ≡ old.torn
 
 -- The call to flush.
 pub record Flushes {E : Type 0} (old new : DiskState) (result : Result Unit E) : Type 0 where

@@ -9,7 +9,7 @@ use Rattle.board_core.specs.declared.disk.Disk.{Ghosts}
 use Rattle.board_core.specs.declared.fuse_disk.FuseDisk.{FuseDisk}
 use Rattle.board_core.specs.Counters.{turn_of, stop_after}
 use Rattle.board_core.specs.Disk.{DiskState, ReadsDisk, WritesDisk, Flushes, advanced}
-use Rattle.board_core.specs.FuseDiskParts.{with_disk_log, CutsDiskWrite, CutsFlush, FlushesAfterRead, WritesAfterRead}
+use Rattle.board_core.specs.FuseDiskParts.{with_disk_log, CutsDiskWrite, CutsFlush, FailsAtRead, WritesAfterRead}
 
 -- the state of the disk below
 abbrev pub state_below : {D : Type 0} {disk : Ghosts D} → FuseDisk D disk → DiskState
@@ -41,12 +41,11 @@ pub record FuseReadsDisk {D : Type 0} {disk : Ghosts D} (lba : ℕ) (buf : List 
   pub counted : OnOk result (new.sectors_read ≡ advanced old.sectors_read (length buf / 512))
   pub uncounted : OnErr result (new.sectors_read ≡ old.sectors_read)
 
--- A write that passed on. An armed fuse reads the old bytes first. Where that read fails it makes no write, and flushes
--- the disk below.
+-- A write that passed on. An armed fuse reads the old bytes first, and makes no write where that read fails.
 abbrev pub PassesWrite : {D : Type 0} {disk : Ghosts D} → FuseState → ℕ → List ℕ → FuseDisk D disk → FuseDisk D disk → Result Unit Failed → Type 0
 PassesWrite Unarmed lba meant old new result = WritesDisk lba meant (state_below old) (state_below new) result
 PassesWrite (Armed left keep) lba meant old new result =
-    FlushesAfterRead lba meant (state_below old) (state_below new) result ⊎ WritesAfterRead lba meant (state_below old) (state_below new) result
+    FailsAtRead lba meant (state_below old) (state_below new) result ⊎ WritesAfterRead lba meant (state_below old) (state_below new) result
 PassesWrite Dead lba meant old new result = ⊥
 
 -- A write, on a fuse.

@@ -6,7 +6,7 @@ use Rattle.board_core.specs.declared.torn.Torn.{Torn}
 use Rattle.board_core.specs.Counters.{Rose}
 use Rattle.board_core.specs.Torn.{torn_records}
 use Rattle.board_core.specs.Flash.{range, spliced}
-use Rattle.board_core.specs.Disk.{DiskMedium, DiskState, ReadsDisk, WritesDisk, Flushes, LeftDisk, IsSectorOf, overlaid, write_records}
+use Rattle.board_core.specs.Disk.{DiskMedium, DiskState, ReadsDisk, WritesDisk, LeftDiskTorn, IsSectorOf, overlaid, write_records}
 
 -- what a disk holds, with one more log of torn sectors
 abbrev pub with_disk_log : DiskMedium → List Torn → DiskMedium
@@ -36,18 +36,14 @@ pub record WritesContent {E : Type 0} (lba : ℕ) (meant : List ℕ) (old new : 
   pub bytes : IsTrue old.told → OnOk result (new.bytes ≡ spliced old.bytes (lba * 512) meant)
   pub writes : IsTrue old.told → OnOk result (new.writes ≡ old.writes ++ write_records lba meant old)
   pub torn : IsTrue old.told → OnOk result (new.torn ≡ old.torn)
-  pub err : IsTrue old.told → OnErr result (LeftDisk old.writes (write_records lba meant old) old new)
+  pub err : IsTrue old.told → OnErr result (LeftDiskTorn old.writes (write_records lba meant old) old new)
 
--- A write that an armed fuse did not make: the disk below failed in the read of the old bytes, and was flushed then.
-pub record FlushesAfterRead (lba : ℕ) (meant : List ℕ) (old new : DiskState) (result : Result Unit Failed) : Type 0 where
+-- A write that an armed fuse did not make: the disk below failed in the read of the old bytes.
+pub record FailsAtRead (lba : ℕ) (meant : List ℕ) (old new : DiskState) (result : Result Unit Failed) : Type 0 where
   pub failed : IsErr result
   pub was : List ℕ
   pub fits : length was ≡ length meant
-  pub mid : DiskState
-  pub read : ReadsDisk lba was old mid result
-  -- what the flush answered
-  pub answer : Result Unit Failed
-  pub flushed : Flushes mid new answer
+  pub read : ReadsDisk lba was old new result
 
 -- A write of an armed fuse: the disk below read the old bytes, and then it did and answered what its write does.
 pub record WritesAfterRead (lba : ℕ) (meant : List ℕ) (old new : DiskState) (result : Result Unit Failed) : Type 0 where

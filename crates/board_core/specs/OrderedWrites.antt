@@ -4,7 +4,7 @@ use Rattle.std.specs.Prelude.{◌≡◌, ◌⊎◌, ℕ, ◌*◌, List, [], ◌+
 use Rattle.board_core.specs.declared.torn.Torn.{Torn}
 use Rattle.board_core.specs.Counters.{MadeChanges}
 use Rattle.board_core.specs.Flash.{spliced}
-use Rattle.board_core.specs.Disk.{DiskMedium, DiskState, LeftDisk, Flushed, write_records}
+use Rattle.board_core.specs.Disk.{DiskMedium, DiskState, LeftDiskTorn, write_records}
 
 -- what a disk holds with these bytes written from a sector
 abbrev pub with_range : ℕ → List ℕ → DiskMedium → DiskMedium
@@ -24,10 +24,8 @@ pub record WritesInOrder {E : Type 0} (first : ℕ) (one : List ℕ) (second : �
   -- nothing is pending, whatever the answer
   pub none_pending : new.medium.pending ≡ 0
   pub ok : IsTrue old.medium.told → OnOk result (new.medium.bytes ≡ (with_range third three (with_range second two (with_range first one old.medium))).bytes)
-  -- The first two ranges hold what the new records tell, and all else stays; or both are as they were. Or the first is
-  -- whole, and nothing else changed. Or both are whole, the third holds what the new records tell or is as it was, and all
-  -- else stays.
+  -- The first two ranges hold what the new records tell, and all else stays. Or both are whole, the third holds what the
+  -- new records tell, and all else stays.
   pub err : IsTrue old.medium.told → OnErr result (
-      LeftDisk [] (records_of_both first one second two old.medium) old.medium new.medium
-      ⊎ Flushed (with_range first one old.medium) new.medium
-      ⊎ LeftDisk [] (write_records third three (with_range second two (with_range first one old.medium))) (with_range second two (with_range first one old.medium)) new.medium)
+      LeftDiskTorn [] (records_of_both first one second two old.medium) old.medium new.medium
+      ⊎ LeftDiskTorn [] (write_records third three (with_range second two (with_range first one old.medium))) (with_range second two (with_range first one old.medium)) new.medium)

@@ -9,9 +9,9 @@ use crate::device::Failed;
 /// model of a device. `write` and `flush` are its changing calls.
 ///
 /// Each call that answers `Failed` raises the count of faults, and a failed write or flush raises the number of failed
-/// changes too. A failed change may leave any bytes in each range that was pending and in a front of its own. It notes
-/// them as torn, a record for each sector, and nothing is pending after it. A failed write may also leave no byte changed
-/// and nothing noted, and then all that was pending lasts.
+/// changes too. A failed call ends what was pending: it notes each sector that was pending as torn, a record for each
+/// write of it, and nothing is pending after it. A failed write or flush may leave any bytes in these sectors and in the
+/// first ones of its own, which it notes too; a failed read leaves every byte.
 pub trait Disk {
     ghost state: { Self → DiskState };
 
@@ -27,7 +27,8 @@ pub trait Disk {
 
     /// Fills `buf`, which is whole sectors long, with the sectors from `lba`. It sees all writes so far.
     ///
-    /// `Failed`: `buf` holds any bytes. The content is as it was, whatever the answer.
+    /// `Failed`: `buf` holds any bytes. No byte of the disk changed. Each sector that was pending is noted as torn, with the
+    /// bytes that stand there, and nothing is pending.
     fn read(&mut self, lba: u64, buf: &mut [u8]) -> Result<(), Failed>
         requires whole { length buf.old % 512 ≡ 0 }
         requires inside { lba + length buf.old / 512 ≤ (state self.old).medium.sectors }
@@ -36,8 +37,7 @@ pub trait Disk {
     /// Writes whole sectors from `lba`, of which at most 64 are then pending.
     ///
     /// `Failed`: any bytes may stand in each range that was pending and in the first sectors of this one. All are noted
-    /// as torn, and nothing is pending. Or this write was not made, and all earlier ones last: no byte changed, nothing is
-    /// noted, and nothing is pending.
+    /// as torn, and nothing is pending.
     fn write(&mut self, lba: u64, bytes: &[u8]) -> Result<(), Failed>
         requires whole { length bytes.now % 512 ≡ 0 }
         requires inside { lba + length bytes.now / 512 ≤ (state self.old).medium.sectors }

@@ -11,7 +11,7 @@ use crate::torn::Torn;
 /// the project's own model of a loss of power. While it is armed it has memory for the records of 64 torn sectors.
 ///
 /// An armed one reads the old bytes of a range before it writes it, and does not count these reads. Where such a read
-/// fails, the write is not made and answers `Failed`, and the disk below is flushed: the fuse notes nothing.
+/// fails, the write is not made and answers `Failed`: the disk below has ended what was pending and noted it.
 #[derive(Drop)]
 pub struct FuseDisk<D: Disk> {
     pub(crate) inner: D,

@@ -9,7 +9,7 @@ use crate::counters::{Counters, FuseState, Turn, raise};
 use crate::device::Failed;
 use crate::disk::Disk;
 use crate::fuse_disk::FuseDisk;
-use crate::fuse_disk_parts::{cut_write, flush_below, settle, write_after_read};
+use crate::fuse_disk_parts::{cut_write, flush_below, read_below, settle, write_after_read};
 use std::alloc::{AllocError, Global};
 
 impl<D: Disk> FuseDisk<D> {
@@ -111,7 +111,7 @@ impl<D: Disk> Disk for FuseDisk<D> {
         if let FuseState::Dead = self.counters.stop {
             return self.counters.count_observed(Err(Failed));
         }
-        let answer = self.inner.read(lba, buf);
+        let answer = read_below(&mut self.inner, &mut self.writes, lba, buf);
         if answer.is_err() {
             return self.counters.count_observed(answer);
         }

@@ -1,13 +1,33 @@
-// The parts of the changing calls of an armed fuse over a disk, over the disk below, the fuse's log and its list of the
-// pending writes.
+// The parts of the calls of a fuse over a disk, over the disk below, the fuse's log and its list of the pending writes.
 ghost use Rattle.std.specs.Prelude.{◌≡◌, ◌+◌, ◌*◌, ◌/◌, ◌%◌, ◌≤◌, [], length, IsTrue, OnOk, OnErr, IsErr, ◌⊎◌, vec_len, vec_capacity};
 ghost use Rattle.board_core.specs.Counters.{Rose};
-ghost use Rattle.board_core.specs.Disk.{Flushes, LeftDiskTorn, LeftDisk, write_records};
-ghost use Rattle.board_core.specs.FuseDiskParts.{with_disk_log, Mirrors, WritesContent, FlushesAfterRead, WritesAfterRead, WroteFront, CutsDiskWrite, CutsFlush};
+ghost use Rattle.board_core.specs.Disk.{ReadsDisk, Flushes, LeftDiskTorn, write_records};
+ghost use Rattle.board_core.specs.FuseDiskParts.{with_disk_log, Mirrors, WritesContent, FailsAtRead, WritesAfterRead, WroteFront, CutsDiskWrite, CutsFlush};
 
 use crate::device::Failed;
 use crate::disk::Disk;
 use crate::torn::{Torn, note};
+
+/// Reads sectors, and where that fails lists none as pending any more.
+pub fn read_below<D: Disk>(
+    inner: &mut D,
+    writes: &mut Vec<Torn>,
+    lba: u64,
+    buf: &mut [u8],
+) -> Result<(), Failed>
+    requires whole { length buf.old % 512 ≡ 0 }
+    requires inside { lba + length buf.old / 512 ≤ (D.state inner.old).medium.sectors }
+    ensures meets { ReadsDisk lba buf.new (D.state inner.old) (D.state inner.new) result }
+    ensures listed { OnOk result (writes.new.items ≡ writes.old.items) }
+    ensures none_listed { OnErr result (writes.new.items ≡ []) }
+    ensures capacity { vec_capacity writes.old ≤ vec_capacity writes.new }
+{
+    let answer = inner.read(lba, buf);
+    if answer.is_err() {
+        writes.clear();
+    }
+    answer
+}
 
 /// Flushes the disk, and lists no sector as pending any more.
 pub fn flush_below<D: Disk>(inner: &mut D, writes: &mut Vec<Torn>) -> Result<(), Failed>
@@ -39,8 +59,7 @@ pub fn settle<D: Disk>(inner: &mut D, torn: &mut Vec<Torn>, writes: &mut Vec<Tor
 
 /// Reads the old bytes of the range, and then writes it and lists its sectors as pending. `was` is room for the old bytes.
 ///
-/// `Failed`: the disk failed, and nothing is pending. Where it failed in the read, no write was made, and the disk was
-/// flushed.
+/// `Failed`: the disk failed, and nothing is pending. Where it failed in the read, no write was made.
 pub fn write_after_read<D: Disk>(
     inner: &mut D,
     writes: &mut Vec<Torn>,
@@ -57,12 +76,11 @@ pub fn write_after_read<D: Disk>(
     ensures mirrors { Mirrors (D.state inner.new).medium writes.new.items }
     ensures held { 64 ≤ vec_capacity writes.new }
     ensures content { WritesContent lba bytes.now (D.state inner.old).medium (D.state inner.new).medium result }
-    ensures fused { FlushesAfterRead lba bytes.now (D.state inner.old) (D.state inner.new) result ⊎ WritesAfterRead lba bytes.now (D.state inner.old) (D.state inner.new) result }
+    ensures fused { FailsAtRead lba bytes.now (D.state inner.old) (D.state inner.new) result ⊎ WritesAfterRead lba bytes.now (D.state inner.old) (D.state inner.new) result }
 {
     let _sectors = inner.sectors();
-    let answer = inner.read(lba, was);
+    let answer = read_below(inner, writes, lba, was);
     if answer.is_err() {
-        let _ = flush_below(inner, writes);
         return answer;
     }
     if inner.write(lba, bytes).is_err() {
@@ -86,7 +104,7 @@ fn write_and_flush<D: Disk>(inner: &mut D, lba: u64, front: &[u8]) -> Result<(),
     ensures later { (D.state inner.old).counters.faults ≤ (D.state inner.new).counters.faults }
     ensures cause { IsErr result → Rose (D.state inner.old).counters.faults (D.state inner.new).counters.faults }
     ensures ok { IsTrue (D.state inner.old).medium.told → OnOk result (WroteFront lba front.now (D.state inner.old).medium (D.state inner.new).medium) }
-    ensures err { IsTrue (D.state inner.old).medium.told → OnErr result (LeftDisk (D.state inner.old).medium.writes (write_records lba front.now (D.state inner.old).medium) (D.state inner.old).medium (D.state inner.new).medium) }
+    ensures err { IsTrue (D.state inner.old).medium.told → OnErr result (LeftDiskTorn (D.state inner.old).medium.writes (write_records lba front.now (D.state inner.old).medium) (D.state inner.old).medium (D.state inner.new).medium) }
 {
     if front.is_empty() {
         return inner.flush();
@@ -97,8 +115,8 @@ fn write_and_flush<D: Disk>(inner: &mut D, lba: u64, front: &[u8]) -> Result<(),
 
 /// The chosen write: it keeps its first `keep / 512` sectors, and all pending writes last. Each pending sector and the
 /// whole range are noted. `was` and `left` are room for the bytes of the range before the call and after it. Where the disk
-/// fails, its own notes stand alone; where it fails in the read of the old bytes, no write is made, and it is flushed.
-/// Nothing is pending after it.
+/// fails, its own notes stand alone; where it fails in the read of the old bytes, no write is made. Nothing is pending after
+/// it.
 pub fn cut_write<D: Disk>(
     inner: &mut D,
     torn: &mut Vec<Torn>,
@@ -119,12 +137,11 @@ pub fn cut_write<D: Disk>(
     ensures sectors { (D.state inner.new).medium.sectors ≡ (D.state inner.old).medium.sectors }
     ensures told { (D.state inner.new).medium.told ≡ (D.state inner.old).medium.told }
     ensures none_pending { (D.state inner.new).medium.pending ≡ 0 }
-    ensures left_disk { IsTrue (D.state inner.old).medium.told → LeftDisk (D.state inner.old).medium.writes (write_records lba bytes.now (D.state inner.old).medium) (with_disk_log (D.state inner.old).medium torn.old.items) (with_disk_log (D.state inner.new).medium torn.new.items) }
+    ensures left_torn { IsTrue (D.state inner.old).medium.told → LeftDiskTorn (D.state inner.old).medium.writes (write_records lba bytes.now (D.state inner.old).medium) (with_disk_log (D.state inner.old).medium torn.old.items) (with_disk_log (D.state inner.new).medium torn.new.items) }
     ensures cut { CutsDiskWrite keep lba bytes.now (D.state inner.old) (D.state inner.new) torn.old.items torn.new.items }
 {
     let _sectors = inner.sectors();
     if inner.read(lba, was).is_err() {
-        let _ = flush_below(inner, writes);
         return;
     }
     let kept = bytes.len().min(keep as usize / 512 * 512);

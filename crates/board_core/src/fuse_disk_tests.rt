@@ -35,6 +35,7 @@ impl Disk for HalfDisk {
 
     fn read(&mut self, lba: u64, buf: &mut [u8]) -> Result<(), Failed> {
         if lba >= 4 {
+            self.pending = 0;
             self.faults = raise(self.faults);
             return Err(Failed);
         }
@@ -64,7 +65,7 @@ fn write_twice(fuse: &mut FuseDisk<HalfDisk>, lba: u64) -> Result<(), Failed>
 }
 
 #[test]
-fn failed_reads_of_old_bytes_note_nothing(rt: HostRuntime) -> Result<(), Fail> {
+fn failed_reads_of_old_bytes_are_noted_below(rt: HostRuntime) -> Result<(), Fail> {
     let disk = HalfDisk {
         pending: 0,
         faults: 0,

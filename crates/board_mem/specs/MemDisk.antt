@@ -6,7 +6,7 @@ use Rattle.board_core.specs.Disk.{DiskState, overlaid}
 use Rattle.board_mem.specs.declared.fails.Remains.{Remains}
 use Rattle.board_mem.specs.declared.mem_disk.MemDisk.{MemDisk}
 use Rattle.board_mem.specs.Fails.{Plan, plan_of}
-use Rattle.board_mem.specs.Remains.{record_left}
+use Rattle.board_mem.specs.Remains.{record_left, record_standing}
 
 abbrev pub mem_disk_state : MemDisk → DiskState
 mem_disk_state disk = record {
@@ -35,3 +35,8 @@ mem_disk_torn disk = disk.torn.items
 pub record LeavesSectors (remains : Remains) (writes : List Torn) (old new : MemDisk) : Type 0 where
   pub bytes : (mem_disk_state new).medium.bytes ≡ overlaid (mem_disk_state old).medium.bytes (map (record_left remains) writes)
   pub torn : mem_disk_torn new ≡ mem_disk_torn old ++ map (record_left remains) writes
+
+-- A read that failed: each of these writes is noted as torn, with the bytes that stand in its sector.
+pub record NotesSectors (writes : List Torn) (old new : MemDisk) : Type 0 where
+  pub bytes : (mem_disk_state new).medium.bytes ≡ (mem_disk_state old).medium.bytes
+  pub torn : mem_disk_torn new ≡ mem_disk_torn old ++ map (record_standing (mem_disk_state old).medium.bytes) writes

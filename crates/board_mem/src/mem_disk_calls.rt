@@ -3,8 +3,8 @@ ghost use Rattle.std.specs.Prelude.{◌≡◌, [], ◌∷◌, ◌+◌, ◌*◌, 
 ghost use Rattle.board_core.specs.Counters.{plain_counters};
 ghost use Rattle.board_core.specs.Disk.{ReadsDisk, WritesDisk, Flushes, IsSectorOf, overlaid, write_records};
 ghost use Rattle.board_mem.specs.Fails.{next_failure, observed_counters, changed_counters, FollowsPlan};
-ghost use Rattle.board_mem.specs.Remains.{record_left};
-ghost use Rattle.board_mem.specs.MemDisk.{mem_disk_state, mem_disk_plan, mem_disk_torn, LeavesSectors};
+ghost use Rattle.board_mem.specs.Remains.{record_left, record_standing};
+ghost use Rattle.board_mem.specs.MemDisk.{mem_disk_state, mem_disk_plan, mem_disk_torn, LeavesSectors, NotesSectors};
 
 use crate::fails::{FailAt, Remains, Schedule, leave};
 use crate::mem_disk::MemDisk;
@@ -96,6 +96,33 @@ fn end_torn(content: &mut Vec<u8>, torn: &mut Vec<Torn>, writes: &mut Vec<Torn>,
     writes.clear();
 }
 
+// Notes the sector of a write with the bytes that stand there.
+fn note_sector(content: &[u8], torn: &mut Vec<Torn>, write: &Torn)
+    requires sector { IsSectorOf (length content.now) write.now }
+    requires room { vec_len torn.old + 1 ≤ vec_capacity torn.old }
+    ensures torn { torn.new.items ≡ torn.old.items ++ record_standing content.now write.now ∷ [] }
+    ensures noted { vec_len torn.new ≡ vec_len torn.old + 1 }
+    ensures capacity { vec_capacity torn.old ≤ vec_capacity torn.new }
+{
+    let at = write.at as usize;
+    let mut left = [0; 512];
+    left.copy_from_slice(&content[at..at + 512]);
+    let _ = torn.push(Torn { left, ..*write });
+}
+
+// Notes the sectors of these writes with the bytes that stand there.
+fn note_sectors(content: &[u8], torn: &mut Vec<Torn>, writes: &[Torn])
+    requires sectors { All (IsSectorOf (length content.now)) writes.now }
+    requires room { vec_len torn.old + length writes.now ≤ vec_capacity torn.old }
+    ensures torn { torn.new.items ≡ torn.old.items ++ map (record_standing content.now) writes.now }
+    ensures noted { vec_len torn.new ≡ vec_len torn.old + length writes.now }
+    ensures capacity { vec_capacity torn.old ≤ vec_capacity torn.new }
+{
+    for write in writes {
+        note_sector(content, torn, write);
+    }
+}
+
 impl Disk for MemDisk {
     ghost use Rattle.std.proofs.Common.{arith};
 
@@ -123,8 +150,11 @@ impl Disk for MemDisk {
         ensures counters { (mem_disk_state self.new).counters ≡ observed_counters (is_err result) (mem_disk_state self.old).counters }
         ensures untouched { OnErr result (buf.new ≡ buf.old) }
         ensures uncounted { OnErr result ((mem_disk_state self.new).medium.sectors_read ≡ (mem_disk_state self.old).medium.sectors_read) }
+        ensures notes { OnErr result (NotesSectors (mem_disk_state self.old).medium.writes self.old self.new) }
     {
         if self.schedule.next().is_some() {
+            note_sectors(&self.bytes, &mut self.torn, &self.writes);
+            self.writes.clear();
             self.faults = raise(self.faults);
             return Err(Failed);
         }

@@ -1,47 +1,46 @@
 -- The chosen write: at each exit, what is left torn.
-use Rattle.std.proofs.Common.{◌≡◌, ◌+◌, ◌*◌, ◌%◌, ◌≤◌, ◌++◌, IsTrue, List, ℕ, inl, sym, ap, ◌∙◌, subst, arith, rules, length, take, drop}
+use Rattle.std.proofs.Common.{◌≡◌, ◌+◌, ◌*◌, ◌%◌, ◌≤◌, ◌++◌, IsTrue, List, ℕ, sym, ap, ◌∙◌, subst, arith, rules, length, take, drop}
 use Rattle.board_core.specs.Disk.{DiskMedium, write_records}
 use Rattle.board_core.specs.Torn.{torn_records}
 use Rattle.board_core.proofs.FuseLemmas.{on_ok_at, on_err_at}
 use Rattle.board_core.proofs.TornRange.{filled_is}
-use Rattle.board_core.proofs.DiskTorn.{left_disk_with_log, left_disk_flush}
-use Rattle.board_core.proofs.FuseDiskLemmas.{left_disk_torn_read, left_disk_torn_kept, left_disk_read, left_disk_part, mirrors_read}
+use Rattle.board_core.proofs.DiskTorn.{left_disk_torn_with_log, left_disk_torn_none}
+use Rattle.board_core.proofs.FuseDiskLemmas.{left_disk_torn_read, left_disk_torn_kept, left_disk_torn_read_below, left_disk_torn_part, mirrors_read}
 use Rattle.board_core.proofs.fuse_disk_parts.cut_write.Goals as goal
 
-pub returns-then-is_err-clause-left_disk : goal.returns-then-is_err-clause-left_disk
-returns-then-is_err-clause-left_disk g c = λ told.
-    let old = (g.D.Disk.state c.args.inner.now).medium in
-    let mid = (g.D.Disk.state c.read.new.self).medium in
-    let new = (g.D.Disk.state c.flush_below.new.inner).medium in
-    let same = c.read.ensures.meets.medium in
-    let meets = c.flush_below.ensures.meets in
-    let told_mid = subst (λ (m : DiskMedium). IsTrue m.told) (sym same) told in
-    left_disk_with_log old.writes (write_records c.args.lba c.args.bytes.now old) old new c.args.torn.now.items
-    (left_disk_read c.args.lba c.args.bytes.now old mid new _ same
-    (left_disk_flush (write_records c.args.lba c.args.bytes.now mid) mid new c.flush_below.result (meets.ok told_mid) (meets.err told_mid)))
+pub returns-then-is_err-clause-none_pending : goal.returns-then-is_err-clause-none_pending
+returns-then-is_err-clause-none_pending g c = on_err_at c.read.result (sym c.is_err.ensures.value ∙ c.if-is_err.true) c.read.ensures.meets.none_pending
 
-pub returns-then-is_err-2-clause-left_disk : goal.returns-then-is_err-2-clause-left_disk
-returns-then-is_err-2-clause-left_disk g c = λ told.
+pub returns-then-is_err-clause-left_torn : goal.returns-then-is_err-clause-left_torn
+returns-then-is_err-clause-left_torn g c = λ told.
+    let old = (g.D.Disk.state c.args.inner.now).medium in
+    let new = (g.D.Disk.state c.read.new.self).medium in
+    let own = write_records c.args.lba c.args.bytes.now old in
+    left_disk_torn_with_log old.writes own old new c.args.torn.now.items
+    (left_disk_torn_none old.writes own old new (on_err_at c.read.result (sym c.is_err.ensures.value ∙ c.if-is_err.true) (c.read.ensures.meets.err told)))
+
+pub returns-then-is_err-2-clause-left_torn : goal.returns-then-is_err-2-clause-left_torn
+returns-then-is_err-2-clause-left_torn g c = λ told.
     let old = (g.D.Disk.state c.args.inner.now).medium in
     let mid = (g.D.Disk.state c.read.new.self).medium in
     let new = (g.D.Disk.state c.write_and_flush.new.inner).medium in
-    let same = c.read.ensures.meets.medium in
+    let same = on_ok_at c.read.result (sym c.is_err.ensures.value ∙ c.if-is_err.false) c.read.ensures.meets.ok in
     let told_mid = subst (λ (m : DiskMedium). IsTrue m.told) (sym same) told in
     let kept = c.min-kept.result in
     let sectors : kept % 512 ≡ 0 = omega (arith, c.min-kept.ensures, c.requires.whole) in
     let within : kept ≤ length c.args.bytes.now = omega (arith, c.min-kept.ensures) in
     let inside : c.args.lba * 512 + length c.args.bytes.now ≤ length mid.bytes = omega (arith, c.requires.inside, c.requires.whole, g.met.D.Disk.told_size c.read.new.self told_mid, ap (λ (m : DiskMedium). m.sectors) same) in
-    left_disk_with_log old.writes (write_records c.args.lba c.args.bytes.now old) old new c.args.torn.now.items
-    (left_disk_read c.args.lba c.args.bytes.now old mid new _ same
-    (left_disk_part c.args.lba kept c.args.bytes.now mid new sectors within c.requires.whole inside
+    left_disk_torn_with_log old.writes (write_records c.args.lba c.args.bytes.now old) old new c.args.torn.now.items
+    (left_disk_torn_read_below c.args.lba c.args.bytes.now old mid new _ same
+    (left_disk_torn_part c.args.lba kept c.args.bytes.now mid new sectors within c.requires.whole inside
     (on_err_at c.write_and_flush.result (sym c.is_err-2.ensures.value ∙ c.if-is_err-2.true) (c.write_and_flush.ensures.err told_mid))))
 
-pub returns-clause-left_disk : goal.returns-clause-left_disk
-returns-clause-left_disk g c = λ told.
+pub returns-clause-left_torn : goal.returns-clause-left_torn
+returns-clause-left_torn g c = λ told.
     let old = (g.D.Disk.state c.args.inner.now).medium in
     let mid = (g.D.Disk.state c.read.new.self).medium in
     let new = (g.D.Disk.state c.write_and_flush.new.inner).medium in
-    let same = c.read.ensures.meets.medium in
+    let same = on_ok_at c.read.result (sym c.is_err.ensures.value ∙ c.if-is_err.false) c.read.ensures.meets.ok in
     let told_mid = subst (λ (m : DiskMedium). IsTrue m.told) (sym same) told in
     let writes = c.args.writes.now.items in
     let kept = c.min-kept.result in
@@ -55,6 +54,6 @@ returns-clause-left_disk g c = λ told.
     ap (λ (l : List ℕ). l ++ drop kept c.copy_from_slice.new.self) c.copy_from_slice-2.ensures.after
     ∙ ap (λ (l : List ℕ). take kept c.args.bytes.now ++ drop kept l) c.copy_from_slice.ensures.after in
     let appended : c.append.new.self.items ≡ c.args.torn.now.items ++ writes = search rules in
-    inl (left_disk_torn_read c.args.lba c.args.bytes.now old mid new _ c.args.torn.now.items c.note.new.torn.items same
+    left_disk_torn_read c.args.lba c.args.bytes.now old mid new _ c.args.torn.now.items c.note.new.torn.items same
     (left_disk_torn_kept c.args.lba kept c.read.new.buf c.args.bytes.now _ mid new writes c.args.torn.now.items c.note.new.torn.items c.requires.whole inside within (mirrors.known told_mid) (mirrors.stand told_mid)
-    (rw same was) left wrote.bytes wrote.torn wrote.writes (c.note.ensures.noted ∙ ap (λ (l : _). l ++ torn_records (c.args.lba * 512) c.read.new.buf c.args.bytes.now (c.copy_from_slice-2.new.self ++ drop kept c.copy_from_slice.new.self)) appended)))
+    (rw same was) left wrote.bytes wrote.torn wrote.writes (c.note.ensures.noted ∙ ap (λ (l : _). l ++ torn_records (c.args.lba * 512) c.read.new.buf c.args.bytes.now (c.copy_from_slice-2.new.self ++ drop kept c.copy_from_slice.new.self)) appended))

@@ -1,11 +1,11 @@
 -- The flush after the first sectors fails: their range and each pending sector are torn.
-use Rattle.std.proofs.Common.{◌≡◌, ◌+◌, ◌*◌, ◌≤◌, ◌++◌, IsTrue, List, [], inl, refl, sym, ap, ◌∙◌, subst, arith, length, take}
+use Rattle.std.proofs.Common.{◌≡◌, ◌+◌, ◌*◌, ◌≤◌, ◌++◌, IsTrue, List, refl, sym, ap, ◌∙◌, subst, arith, length, take}
 use Rattle.std.proofs.lemmas.List.{take_all}
 use Rattle.std.proofs.lemmas.Result.{on_err_weaker}
 use Rattle.std.specs.Prelude.{All}
 use Rattle.board_core.specs.declared.torn.Torn.{Torn}
 use Rattle.board_core.specs.Flash.{range}
-use Rattle.board_core.specs.Disk.{LeftDiskTorn, IsSectorOf, overlaid, write_records}
+use Rattle.board_core.specs.Disk.{IsSectorOf, overlaid, write_records}
 use Rattle.board_core.proofs.Overlays.{overlaid-range}
 use Rattle.board_core.proofs.DiskTorn.{left_disk_torn_after}
 use Rattle.board_core.proofs.FuseDiskLemmas.{sectors_more}
@@ -26,6 +26,6 @@ returns-clause-err g c = λ told.
     let sectors : All (IsSectorOf (old.sectors * 512)) (old.writes ++ own) = sectors_more c.args.lba old.sectors was c.args.front.now old.writes mirrors.in_sectors c.requires.whole c.requires.inside in
     let over = meets.bytes told ∙ sym (overlaid-range (c.args.lba * 512) old.bytes was c.args.front.now c.args.front.now c.requires.whole refl inside) in
     on_err_weaker c.flush-2.result
-    (λ (left_torn : LeftDiskTorn mid.writes [] mid new). inl (left_disk_torn_after (old.sectors * 512) old.writes own (length own) old mid new size (rw all sectors) (omega arith) (mirrors.stand told) (over ∙ ap (overlaid old.bytes) (sym all))
-    (meets.torn told) (meets.writes told ∙ ap (λ (l : List Torn). old.writes ++ l) (sym all)) left_torn))
+    (left_disk_torn_after (old.sectors * 512) old.writes own (length own) old mid new size (rw all sectors) (omega arith) (mirrors.stand told) (over ∙ ap (overlaid old.bytes) (sym all))
+    (meets.torn told) (meets.writes told ∙ ap (λ (l : List Torn). old.writes ++ l) (sym all)))
     (c.flush-2.ensures.meets.err (subst IsTrue (sym meets.told) told))

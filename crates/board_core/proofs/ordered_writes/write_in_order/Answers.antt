@@ -1,5 +1,5 @@
 -- Each end of the run: what was left, from what each call did.
-use Rattle.std.proofs.Common.{◌≡◌, ◌⊎◌, ℕ, ◌+◌, ◌*◌, ◌%◌, ◌≤◌, List, [], ◌++◌, length, IsTrue, true, inl, inr, refl, sym, ap, ◌∙◌, subst, arith, append-nil}
+use Rattle.std.proofs.Common.{◌≡◌, ℕ, ◌+◌, ◌*◌, ◌%◌, ◌≤◌, List, [], ◌++◌, length, IsTrue, true, inl, inr, refl, sym, ap, ◌∙◌, subst, arith, append-nil}
 use Rattle.std.proofs.lemmas.List.Elements.{All-nil, All-append}
 use Rattle.std.specs.Prelude.{All}
 use Rattle.board_core.specs.declared.torn.Torn.{Torn}
@@ -7,11 +7,11 @@ use Rattle.board_core.specs.declared.counters.Counters.{Counters}
 use Rattle.board_core.specs.Counters.{MadeChanges}
 use Rattle.board_core.specs.Torn.{torn_records}
 use Rattle.board_core.specs.Flash.{range, spliced}
-use Rattle.board_core.specs.Disk.{DiskMedium, LeftDiskTorn, LeftDisk, Flushed, IsSectorOf, overlaid, write_records}
+use Rattle.board_core.specs.Disk.{DiskMedium, LeftDiskTorn, IsSectorOf, overlaid, write_records}
 use Rattle.board_core.specs.OrderedWrites.{with_range}
 use Rattle.board_core.proofs.Stops.{moved_weaker, made_then}
 use Rattle.board_core.proofs.Overlays.{overlaid-append, overlaid-range, sectors_of-range}
-use Rattle.board_core.proofs.DiskTorn.{left_disk_torn_run, left_disk_torn_from, left_disk_run, left_disk_more, left_disk_from}
+use Rattle.board_core.proofs.DiskTorn.{left_disk_torn_run, left_disk_torn_more, left_disk_torn_from}
 use Rattle.board_core.proofs.FuseDiskLemmas.{settled_writes}
 use Rattle.board_core.proofs.ordered_writes.write_in_order.Goals as goal
 
@@ -37,12 +37,6 @@ same_records lba meant old old' bytes = ap (λ (b : List ℕ). torn_records (lba
 sectors_of : (lba size : ℕ) (meant : List ℕ) (medium : DiskMedium) → length meant % 512 ≡ 0 → lba * 512 + length meant ≤ size → All (IsSectorOf size) (write_records lba meant medium)
 sectors_of lba size meant medium whole inside = sectors_of-range size (lba * 512) (range medium.bytes (lba * 512) (length meant)) meant meant whole inside
 
--- the second write failed: all is told by the records, or it was not made and the first is whole
-second_failed : (first second second' : List Torn) (old mid after new : DiskMedium) (Third : Type 0) → after ≡ record old { bytes = after.bytes } → mid.bytes ≡ after.bytes → second ≡ second'
-    → LeftDiskTorn [] (first ++ second) old new ⊎ Flushed (record old { bytes = mid.bytes }) new → LeftDisk [] (first ++ second') old new ⊎ Flushed after new ⊎ Third
-second_failed first second second' old mid after new Third is bytes same (inl left_torn) = inl (inl (subst (λ (l : List Torn). LeftDiskTorn [] (first ++ l) old new) same left_torn))
-second_failed first second second' old mid after new Third is bytes same (inr flushed) = inr (inl (subst (λ (m : DiskMedium). Flushed m new) (ap (λ (b : List ℕ). record old { bytes = b }) bytes ∙ sym is) flushed))
-
 pub returns-in_default : goal.returns-in_default
 returns-in_default g c =
     let old = (g.D.Disk.state c.args.disk.now).medium in
@@ -55,8 +49,8 @@ returns-in_default g c =
       sectors_read = meets.sectors_read;
       none_pending = meets.none_pending;
       ok = λ told. tt;
-      err = λ told. inl (left_disk_more (write_records c.args.first c.args.one.now old) (write_records c.args.second c.args.two.now (with_range c.args.first c.args.one.now old)) old new
-          (subst (λ (l : List Torn). LeftDisk l (write_records c.args.first c.args.one.now old) old new) (settled_writes old c.requires.settled (g.met.D.Disk.told_pending c.args.disk.now) told) (meets.err told)));
+      err = λ told. inl (left_disk_torn_more (write_records c.args.first c.args.one.now old) (write_records c.args.second c.args.two.now (with_range c.args.first c.args.one.now old)) old new
+          (subst (λ (l : List Torn). LeftDiskTorn l (write_records c.args.first c.args.one.now old) old new) (settled_writes old c.requires.settled (g.met.D.Disk.told_pending c.args.disk.now) told) (meets.err told)));
     }
 
 pub returns-in_default-write : goal.returns-in_default-write
@@ -81,11 +75,10 @@ returns-in_default-write g c =
           let in_two : c.args.second * 512 + length c.args.two.now ≤ size = omega (arith, c.requires.inside_two, c.requires.whole_two) in
           let told' = subst IsTrue (sym one.told) told in
           let pending = one.writes told ∙ ap (λ (l : List Torn). l ++ first) (settled_writes old c.requires.settled (g.met.D.Disk.told_pending c.args.disk.now) told) in
-          let run = left_disk_run size first (write_records c.args.second c.args.two.now mid) old mid new full
+          let run = left_disk_torn_run size first (write_records c.args.second c.args.two.now mid) old mid new full
           (sectors_of c.args.first size c.args.one.now old c.requires.whole_one in_one) (sectors_of c.args.second size c.args.two.now mid c.requires.whole_two in_two)
           (over_range c.args.first c.args.one.now old mid c.requires.whole_one (omega arith) (one.bytes told)) (one.torn told) pending (meets.err told') in
-          second_failed first (write_records c.args.second c.args.two.now mid) (write_records c.args.second c.args.two.now (with_range c.args.first c.args.one.now old)) old mid (with_range c.args.first c.args.one.now old) new
-          _ refl (one.bytes told) (same_records c.args.second c.args.two.now mid (with_range c.args.first c.args.one.now old) (one.bytes told)) run;
+          inl (subst (λ (l : List Torn). LeftDiskTorn [] (first ++ l) old new) (same_records c.args.second c.args.two.now mid (with_range c.args.first c.args.one.now old) (one.bytes told)) run);
     }
 
 pub returns-in_default-flush : goal.returns-in_default-flush
@@ -125,7 +118,7 @@ returns-in_default-flush g c =
           let run = left_disk_torn_run size (first ++ second) [] old both new full
           (All-append (IsSectorOf size) first second (sectors_of c.args.first size c.args.one.now old c.requires.whole_one in_one) (sectors_of c.args.second size c.args.two.now (with_range c.args.first c.args.one.now old) c.requires.whole_two in_two))
           (All-nil (IsSectorOf size)) bytes (two.torn told' ∙ one.torn told) pending (meets.err told'') in
-          inl (inl (subst (λ (l : List Torn). LeftDiskTorn [] l old new) (append-nil (first ++ second)) run));
+          inl (subst (λ (l : List Torn). LeftDiskTorn [] l old new) (append-nil (first ++ second)) run);
     }
 
 pub returns-in_default-write-2 : goal.returns-in_default-write-2
@@ -152,8 +145,8 @@ returns-in_default-write-2 g c =
           let bytes : flushed.bytes ≡ after.bytes = (last.ok told'').bytes ∙ two.bytes told' ∙ ap (λ (b : List ℕ). spliced b (c.args.second * 512) c.args.two.now) (one.bytes told) in
           let torn : flushed.torn ≡ old.torn = (last.ok told'').torn ∙ two.torn told' ∙ one.torn told in
           let third = write_records c.args.third c.args.three.now flushed in
-          let left_disk = subst (λ (l : List Torn). LeftDisk l third flushed new) (last.ok told'').writes (meets.err told''') in
-          inr (inr (subst (λ (l : List Torn). LeftDisk [] l after new) (same_records c.args.third c.args.three.now flushed after bytes) (left_disk_from [] third flushed after new (sym bytes) (sym torn) left_disk)));
+          let left_torn = subst (λ (l : List Torn). LeftDiskTorn l third flushed new) (last.ok told'').writes (meets.err told''') in
+          inr (subst (λ (l : List Torn). LeftDiskTorn [] l after new) (same_records c.args.third c.args.three.now flushed after bytes) (left_disk_torn_from [] third flushed after new (sym bytes) (sym torn) left_torn));
     }
 
 pub returns-in_default-flush-2 : goal.returns-in_default-flush-2
@@ -189,7 +182,7 @@ returns-in_default-flush-2 g c =
           let run = left_disk_torn_run size third [] flushed mid new full (sectors_of c.args.third size c.args.three.now flushed c.requires.whole_three inside) (All-nil (IsSectorOf size))
           (over_range c.args.third c.args.three.now flushed mid c.requires.whole_three (omega arith) (three.bytes told''')) (three.torn told''') pending (meets.err (subst IsTrue (sym three.told) told''')) in
           let left_torn = subst (λ (l : List Torn). LeftDiskTorn [] l flushed new) (append-nil third) run in
-          inr (inr (inl (subst (λ (l : List Torn). LeftDiskTorn [] l after new) (same_records c.args.third c.args.three.now flushed after bytes) (left_disk_torn_from [] third flushed after new (sym bytes) (sym torn) left_torn))));
+          inr (subst (λ (l : List Torn). LeftDiskTorn [] l after new) (same_records c.args.third c.args.three.now flushed after bytes) (left_disk_torn_from [] third flushed after new (sym bytes) (sym torn) left_torn));
     }
 
 pub returns : goal.returns

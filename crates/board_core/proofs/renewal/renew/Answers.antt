@@ -1,10 +1,10 @@
 -- The write of the space failed: nothing else was changed.
-use Rattle.std.proofs.Common.{◌≡◌, ◌⊎◌, List, ℕ, inl, inr, refl, ap, arith, Bool, true}
+use Rattle.std.proofs.Common.{◌≡◌, ◌⊎◌, List, ℕ, inl, inr, refl, ap, arith}
 use Rattle.board_core.specs.declared.device.Device.TheVariants.{Tpm}
 use Rattle.board_core.specs.declared.device.Space.TheVariants.{Firmware}
 use Rattle.board_core.specs.Counters.{Rose}
 use Rattle.board_core.specs.Flash.{FlashMedium}
-use Rattle.board_core.specs.Tpm.{Spaces, with_space}
+use Rattle.board_core.specs.Tpm.{with_space}
 use Rattle.board_core.specs.World.{World}
 use Rattle.board_core.specs.Renewal.{WroteThoughFailed}
 use Rattle.board_core.proofs.Stops.{made_only_observed, step_cut}

@@ -1,10 +1,11 @@
 -- A write on a fuse meets the trait, whether it is refused, passes on or is the chosen one.
-use Rattle.std.proofs.Common.{Result, inr, refl, is_err, ◌∙◌, sym, ap, subst}
+use Rattle.std.proofs.Common.{Result, refl, is_err, ◌∙◌, sym, ap, subst}
 use Rattle.board_core.specs.declared.device.Failed.{Failed}
 use Rattle.board_core.specs.declared.counters.Counters.{Counters}
-use Rattle.board_core.specs.Disk.{WritesDisk}
+use Rattle.board_core.specs.Disk.{WritesDisk, write_records}
 use Rattle.board_core.proofs.Stops.{refused_dead, unarmed_passes}
 use Rattle.board_core.proofs.FuseLemmas.{passed_change, failed_change}
+use Rattle.board_core.proofs.DiskTorn.{left_disk_torn_refused}
 use Rattle.board_core.proofs.FuseDiskLemmas.{content_passed, passes_unarmed, writes_disk_content, writes_disk_failed, settled_writes}
 use Rattle.board_core.proofs.fuse_disk_calls.FuseDiskDisk.write.Goals as goal
 
@@ -15,7 +16,7 @@ returns-in-Refuse-clause-meets g c =
     let changed = failed_change fuse.counters c.begin_change.new.self c.count_change.new.self _ c.count_change.result c.begin_change.ensures.after c.count_change.ensures.same c.count_change.ensures.counted in
     let none = fuse.settled (refused_dead fuse.counters.stop (sym c.begin_change.ensures.turn ∙ c.in-Refuse.is)) in
     writes_disk_failed c.args.lba c.args.bytes.now medium medium fuse.torn.items fuse.torn.items fuse.sectors_read fuse.counters c.count_change.new.self _ c.count_change.result c.count_change.ensures.same changed refl refl none
-    (λ told. inr (record { bytes = refl; writes = settled_writes medium none (g.met.D.Disk.told_pending fuse.inner) told; torn = refl }))
+    (λ told. left_disk_torn_refused (write_records c.args.lba c.args.bytes.now medium) medium fuse.torn.items (settled_writes medium none (g.met.D.Disk.told_pending fuse.inner) told))
 
 pub returns-in-Armed-clause-meets : goal.returns-in-Armed-clause-meets
 returns-in-Armed-clause-meets g c =

@@ -1,5 +1,5 @@
 -- A write is pending, and a failed one leaves each pending sector and its own torn.
-use Rattle.std.proofs.Common.{inl, refl, length, ap, ◌≡◌, ◌+◌, ◌-◌, ◌*◌, ◌/◌, arith, ℕ, ◌++◌, map}
+use Rattle.std.proofs.Common.{refl, length, ap, ◌≡◌, ◌+◌, ◌-◌, ◌*◌, ◌/◌, arith, ℕ, ◌++◌, map}
 use Rattle.board_core.specs.Flash.{range}
 use Rattle.board_core.specs.Torn.{torn_records}
 use Rattle.board_core.proofs.Stops.{plain_changed}
@@ -38,6 +38,6 @@ returns-in-Some-clause-meets c =
       bytes = λ told. tt;
       writes = λ told. tt;
       torn = λ told. tt;
-      err = λ told. inl (left_disk_torn_alone writes own (map (record_left c.in-Some.remains) (writes ++ own)) _ _ _ _ refl refl torn
-          (records_of-left c.in-Some.remains (length c.args.self.now.bytes.items) (writes ++ own) sectors) content c.end_torn.ensures.none_left);
+      err = λ told. left_disk_torn_alone writes own (map (record_left c.in-Some.remains) (writes ++ own)) _ _ _ _ refl refl torn
+          (records_of-left c.in-Some.remains (length c.args.self.now.bytes.items) (writes ++ own) sectors) content c.end_torn.ensures.none_left;
     }

@@ -4,12 +4,13 @@ ghost use Rattle.board_core.specs.HookRow.{is_digest_size};
 
 use crate::hook_file_tests::{SHORT_OF_ABC, SHORT_OF_NOTHING};
 use crate::{
-    FIRMWARE_FILE, FLASH_FILE, FileHook, FileTpm, HOOK_FILE, KERNEL_FILE, OpenFault, StdSink,
-    StdSource, open_flash,
+    FIRMWARE_FILE, FLASH_FILE, FileFlash, FileHook, FileTpm, HOOK_FILE, KERNEL_FILE, OpenFault,
+    StdSink, StdSource, open_flash,
 };
 use board_core::{EnrollFault, Flash, Hook, HookRow, Sink, Source, Space, Tpm};
 use std::fs;
 use std::fs::File;
+use std::io::Read;
 use std::test::Fail;
 
 #[test]
@@ -18,13 +19,15 @@ fn a_flash(rt: HostRuntime) -> Result<(), Fail> {
     let mut flash = open_flash(&rt, 2).ok().ok_or("a flash is made")?;
     assert!(rt; flash.size() == 8192);
     assert!(rt; flash.program(16, &[1, 2, 3]).is_ok());
-    assert!(rt; flash.program(4100, &[4]).is_ok());
-    assert!(rt; flash.erase(0).is_ok());
+    assert!(rt; flash.program(4101, &[7]).is_ok());
+    assert!(rt; flash.erase(1).is_ok());
     assert!(rt; flash.program(4095, &[5]).is_ok());
+    assert!(rt; flash.program(4100, &[4]).is_ok());
     let mut seen = [0; 6];
     assert!(rt; flash.read(4095, &mut seen).is_ok());
     assert_eq!(rt; seen, [5, 0xff, 0xff, 0xff, 0xff, 4]);
     let mut expected = [0xff; 8192];
+    expected[16..19].copy_from_slice(&[1, 2, 3]);
     expected[4095] = 5;
     expected[4100] = 4;
     assert!(rt; fs::read(&rt, FLASH_FILE)?.as_slice() == expected.as_slice());
@@ -66,8 +69,23 @@ fn a_tpm(rt: HostRuntime) -> Result<(), Fail> {
     assert_eq!(rt; &buf[..2], [4, 5].as_slice());
     assert_eq!(rt; tpm.read(Space::Kernel, &mut buf), Ok(64));
     assert_eq!(rt; buf, [6; 64]);
+    // The file is made anew and takes the place of the old one, which still has its bytes.
+    let mut old = File::open(&rt, FIRMWARE_FILE)?;
+    assert!(rt; tpm.write(Space::Firmware, &[4, 5, 6]).is_ok());
+    let mut seen = [0; 4];
+    assert_eq!(rt; old.read(&mut seen)?, 2);
+    assert_eq!(rt; seen, [4, 5, 0, 0]);
+    // A write that fails leaves the old file: here the new one cannot be made.
+    fs::create_dir(&rt, "tpm_fw.bin.new")?;
+    assert!(rt; tpm.write(Space::Firmware, &[8]).is_err());
+    fs::remove_dir(&rt, "tpm_fw.bin.new")?;
+    assert_eq!(rt;
+        fs::read(&rt, FIRMWARE_FILE)?.as_slice(),
+        [4, 5, 6].as_slice()
+    );
     // A space has at most 64 bytes.
     fs::write(&rt, KERNEL_FILE, &[7; 65][..])?;
+    assert!(rt; tpm.read(Space::Kernel, &mut buf).is_err());
     assert!(rt;
         matches!(
             FileTpm::open(&rt),
@@ -116,6 +134,13 @@ fn a_hook(rt: HostRuntime) -> Result<(), Fail> {
         assert_eq!(rt; hook.verify(algorithm, b"abc", digest, b""), Ok(answer));
     }
     assert_eq!(rt; hook.verify(9, b"abd", &[0; 32], b""), Ok(false));
+    // An enrolment that fails leaves the rows and the file.
+    let before = fs::read(&rt, HOOK_FILE)?;
+    fs::create_dir(&rt, "hook.toml.new")?;
+    assert_eq!(rt; hook.enroll(&row_of_abc(10, 32)), Err(EnrollFault::Failed));
+    fs::remove_dir(&rt, "hook.toml.new")?;
+    assert_eq!(rt; hook.verify(10, b"abc", &[0; 32], b""), Ok(false));
+    assert!(rt; fs::read(&rt, HOOK_FILE)?.as_slice() == before.as_slice());
     fs::write(&rt, HOOK_FILE, "row = 1")?;
     assert!(rt; matches!(FileHook::open(&rt), Err(OpenFault::CannotOpen("hook.toml"))));
     fs::remove_file(&rt, HOOK_FILE)?;
@@ -140,6 +165,22 @@ fn a_sink_and_a_source(rt: HostRuntime) -> Result<(), Fail> {
     // One that is open for reading takes no bytes.
     let mut closed = StdSink::new(File::open(&rt, STREAM_FILE)?);
     assert!(rt; closed.put(b"d").is_err());
+    // One that is open for writing gives none.
+    let mut closed = StdSource::new(File::create(&rt, STREAM_FILE)?);
+    assert!(rt; closed.take(&mut buf).is_err());
     fs::remove_file(&rt, STREAM_FILE)?;
+    Ok(())
+}
+
+#[test]
+fn a_flash_that_fails(rt: HostRuntime) -> Result<(), Fail> {
+    // The file is open for reading alone, and has fewer bytes than the flash.
+    fs::write(&rt, "short.bin", &[6; 4096][..])?;
+    let mut flash = FileFlash::new(File::open(&rt, "short.bin")?, 8192);
+    assert!(rt; flash.read(4095, &mut [0; 2]).is_err());
+    assert!(rt; flash.program(0, &[7]).is_err());
+    assert!(rt; flash.erase(0).is_err());
+    assert!(rt; fs::read(&rt, "short.bin")?.as_slice() == [6; 4096].as_slice());
+    fs::remove_file(&rt, "short.bin")?;
     Ok(())
 }

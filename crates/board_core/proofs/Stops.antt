@@ -1,6 +1,6 @@
 -- How a call moves a stop and the other counters, and how the relations on counters compose. A function that makes
 -- several calls proves its own clause on counters by these laws.
-use Rattle.std.proofs.Common.{◌≡◌, ℕ, ◌+◌, ◌-◌, ◌≤◌, ◌<◌, Bool, true, false, refl, sym, subst, arith, ◌∙◌}
+use Rattle.std.proofs.Common.{◌≡◌, ℕ, ◌+◌, ◌-◌, ◌≤◌, ◌<◌, Bool, true, false, refl, sym, ap, subst, arith, ◌∙◌}
 use Rattle.std.specs.Prelude.{if◌then◌else◌, nat_le}
 use Rattle.std.proofs.lemmas.Bool.{false≢true}
 use Rattle.board_core.specs.declared.counters.Counters.{Counters}
@@ -28,6 +28,7 @@ changed_pass old new failed turn counted = record {
   made = record {
     later = counted.later;
     cause = counted.cause;
+    no_fault = counted.no_fault;
     more_failed = counted.more_failed;
     none_failed = counted.none_failed;
     stop = rw counted.stop (moved_pass old.stop failed turn);
@@ -42,6 +43,7 @@ changed_failed old new counted = record {
   made = record {
     later = counted.later;
     cause = counted.cause;
+    no_fault = counted.no_fault;
     more_failed = counted.more_failed;
     none_failed = counted.none_failed;
     stop = rw counted.stop (moved_failed old.stop);
@@ -99,6 +101,10 @@ moved_failed_too a b n false m = m
 pub rose_later : (a b c : ℕ) → a ≤ b → Rose b c → Rose a c
 rose_later a b c le rose = omega arith
 
+-- a failure that is counted once raises its count
+pub rose_once : (a b : ℕ) → b ≡ raised a → Rose a b
+rose_once a b once = omega arith
+
 -- a count that rose, and then did not fall
 pub rose_before : (a b c : ℕ) → Rose a b → b ≤ c → Rose a c
 rose_before a b c rose le = omega arith
@@ -107,7 +113,8 @@ rose_before a b c rose le = omega arith
 pub observed_then : (a b c : Counters) (failed : Bool) → Observed a b false → Observed b c failed → Observed a c failed
 observed_then a b c failed h k = record {
   later = omega (arith, h.later, k.later);
-  cause = λ f. rose_later a.faults b.faults c.faults h.later (k.cause f);
+  cause = λ f. k.cause f ∙ ap raised (h.no_fault refl);
+  no_fault = λ f. k.no_fault f ∙ h.no_fault refl;
   failed_changes = k.failed_changes ∙ h.failed_changes;
   stop = k.stop ∙ h.stop;
   settings = k.settings ∙ h.settings;
@@ -118,6 +125,7 @@ pub made_none : (a : Counters) → MadeChanges a a 0 false
 made_none a = record {
   later = omega arith;
   cause = λ f. absurd (false≢true f);
+  no_fault = λ f. refl;
   more_failed = omega arith;
   none_failed = λ f. refl;
   stop = moved_none a.stop;
@@ -128,7 +136,8 @@ made_none a = record {
 pub made_observed : (a b c : Counters) (n : ℕ) (failed : Bool) → MadeChanges a b n false → Observed b c failed → MadeChanges a c n failed
 made_observed a b c n failed h k = record {
   later = omega (arith, h.later, k.later);
-  cause = λ f. rose_later a.faults b.faults c.faults h.later (k.cause f);
+  cause = λ f. k.cause f ∙ ap raised (h.no_fault refl);
+  no_fault = λ f. k.no_fault f ∙ h.no_fault refl;
   more_failed = omega (arith, h.more_failed, k.failed_changes);
   none_failed = λ f. k.failed_changes ∙ h.none_failed refl;
   stop = rw k.stop (moved_failed_too a.stop b.stop n failed h.stop);
@@ -139,11 +148,23 @@ made_observed a b c n failed h k = record {
 pub made_then : (a b c : Counters) (n m : ℕ) (failed : Bool) → MadeChanges a b n false → MadeChanges b c m failed → MadeChanges a c (n + m) failed
 made_then a b c n m failed h k = record {
   later = omega (arith, h.later, k.later);
-  cause = λ f. rose_later a.faults b.faults c.faults h.later (k.cause f);
+  cause = λ f. k.cause f ∙ ap raised (h.no_fault refl);
+  no_fault = λ f. k.no_fault f ∙ h.no_fault refl;
   more_failed = omega (arith, h.more_failed, k.more_failed);
   none_failed = λ f. k.none_failed f ∙ h.none_failed refl;
   stop = moved_then a.stop b.stop c.stop n m failed h.stop k.stop;
   settings = k.settings ∙ h.settings;
+}
+
+-- a call that changes no content, of a device that is no fuse, which failed
+pub plain_observed : (faults faults' failed_changes : ℕ) → faults ≤ faults' → faults' ≡ raised faults → Observed (plain_counters faults failed_changes) (plain_counters faults' failed_changes) true
+plain_observed f f' n fl fr = record {
+  later = fl;
+  cause = λ t. fr;
+  no_fault = λ t. absurd (false≢true (sym t));
+  failed_changes = refl;
+  stop = refl;
+  settings = refl;
 }
 
 -- a changing call of a device that is no fuse, which failed
@@ -152,7 +173,8 @@ pub plain_changed : (faults failed_changes faults' failed_changes' : ℕ) → fa
 plain_changed f n f' n' fl fr nl nr = record {
   made = record {
     later = fl;
-    cause = λ t. omega arith;
+    cause = λ t. fr;
+    no_fault = λ t. absurd (false≢true (sym t));
     more_failed = nl;
     none_failed = λ t. absurd (false≢true (sym t));
     stop = tt;
@@ -164,6 +186,12 @@ plain_changed f n f' n' fl fr nl nr = record {
 -- the effect of a call that changes nothing
 pub made_only_observed : (a b : Counters) (failed : Bool) → Observed a b failed → MadeChanges a b 0 failed
 made_only_observed a b failed h = made_observed a a b 0 failed (made_none a) h
+
+-- n changing calls, after a call that changes nothing
+pub observed_made : (a b c : Counters) (n : ℕ) (failed : Bool) → Observed a b false → MadeChanges b c n failed → MadeChanges a c n failed
+observed_made a b c n failed h k =
+    let none : 0 + n ≡ n = omega arith in
+    subst (λ (m : ℕ). MadeChanges a c m failed) none (made_then a b c 0 n failed (made_only_observed a b false h) k)
 
 -- a step that was cut short, after so many of its changing calls
 pub step_cut : (a b : Counters) (n calls : ℕ) (failed : Bool) → calls ≤ n → MadeChanges a b calls failed → MadeStep a b n true failed

@@ -24,8 +24,10 @@ plain_counters faults failed_changes = record { faults = faults; failed_changes 
 pub record CountsFaults (before now : ℕ) (failed : Bool) : Type 0 where
   -- the count does not fall
   pub later : before ≤ now
-  -- a device that failed counted it
-  pub cause : IsTrue failed → Rose before now
+  -- a device that failed counted it once
+  pub cause : IsTrue failed → now ≡ raised before
+  -- and one that did not fail counted nothing
+  pub no_fault : failed ≡ false → now ≡ before
 
 -- ---- how calls move the counters
 
@@ -43,8 +45,10 @@ Moved old new n failed = ⊥
 pub record Observed (old new : Counters) (failed : Bool) : Type 0 where
   -- the count of faults does not fall
   pub later : old.faults ≤ new.faults
-  -- a device that failed counted it
-  pub cause : IsTrue failed → Rose old.faults new.faults
+  -- a device that failed counted it once
+  pub cause : IsTrue failed → new.faults ≡ raised old.faults
+  -- and one that did not fail counted nothing
+  pub no_fault : failed ≡ false → new.faults ≡ old.faults
   pub failed_changes : new.failed_changes ≡ old.failed_changes
   pub stop : new.stop ≡ old.stop
   pub settings : new.settings ≡ old.settings
@@ -53,8 +57,10 @@ pub record Observed (old new : Counters) (failed : Bool) : Type 0 where
 pub record MadeChanges (old new : Counters) (n : ℕ) (failed : Bool) : Type 0 where
   -- the count of faults does not fall
   pub later : old.faults ≤ new.faults
-  -- a device that failed counted it
-  pub cause : IsTrue failed → Rose old.faults new.faults
+  -- a device that failed counted it once
+  pub cause : IsTrue failed → new.faults ≡ raised old.faults
+  -- and one that did not fail counted nothing
+  pub no_fault : failed ≡ false → new.faults ≡ old.faults
   -- the number of failed changes does not fall
   pub more_failed : old.failed_changes ≤ new.failed_changes
   -- and stays where no call failed
@@ -81,7 +87,8 @@ pub record Changed (old new : Counters) (failed : Bool) : Type 0 where
 -- The answer of a changing call was counted, after the stop was moved.
 pub record CountedChange (old new : Counters) (failed : Bool) : Type 0 where
   pub later : old.faults ≤ new.faults
-  pub cause : IsTrue failed → Rose old.faults new.faults
+  pub cause : IsTrue failed → new.faults ≡ raised old.faults
+  pub no_fault : failed ≡ false → new.faults ≡ old.faults
   pub more_failed : old.failed_changes ≤ new.failed_changes
   pub none_failed : failed ≡ false → new.failed_changes ≡ old.failed_changes
   pub broke : IsTrue failed → Rose old.failed_changes new.failed_changes

@@ -2,7 +2,7 @@
 -- signatures that are accepted. The digests are those of FIPS 180-4.
 use Rattle.std.specs.Prelude.{◌≡◌, ◌⊎◌, ℕ, ◌-◌, ◌≤◌, List, [], ◌∷◌, ◌++◌, length, replicate, Any, Bool, IsTrue, Result, is_err, IsErr, IfOk, OnOk, OnErr, IsErrOf, Contains, ◌↔◌}
 use Rattle.sha2.specs.Sha256.{sha256}
-use Rattle.board_core.specs.Counters.{Rose, CountsFaults}
+use Rattle.board_core.specs.Counters.{raised, CountsFaults}
 use Rattle.board_core.specs.declared.hook_row.HookRow.{HookRow}
 use Rattle.board_core.specs.declared.hook.EnrollFault.{EnrollFault}
 use Rattle.board_core.specs.declared.hook.EnrollFault.TheVariants.{Failed, Full}
@@ -49,8 +49,10 @@ pub record HasNoRoom (row : HookRow) (rows : List HookRow) : Type 0 where
 pub record Enrolls (row : HookRow) (old new : HookState) (result : Result Unit EnrollFault) : Type 0 where
   -- the count of faults does not fall
   pub later : old.faults ≤ new.faults
-  -- a device that failed counted it
-  pub cause : IsErrOf result Failed → Rose old.faults new.faults
+  -- a device that failed counted it once
+  pub cause : IsErrOf result Failed → new.faults ≡ raised old.faults
+  -- and one that did not fail counted nothing
+  pub no_fault : (IsErrOf result Failed → ⊥) → new.faults ≡ old.faults
   pub told : new.told ≡ old.told
   pub ok : IsTrue old.told → OnOk result (Enrolled row old.rows new.rows)
   -- a refusal leaves the list, whichever it is

@@ -1,7 +1,7 @@
 -- A boot by its steps: what is read and carried out, over the world before both.
 use Rattle.std.proofs.Common.{◌≡◌, ℕ, ◌+◌, ◌*◌, ◌<◌, ◌≤◌, Bool, List, length, take, Option, Some, None, Result, Ok, Err, refl, sym, ap, subst, ◌∙◌, arith, inl, inr}
 use Rattle.std.specs.Prelude.{IsTrue, is_some, IsSome, IfSome, ◌⊎◌}
-use Rattle.std.proofs.lemmas.Bool.{cond-true, cond-false, cases_lt, lt-ltb, le-ltb, and_parts, eqb-true, eq-eqb}
+use Rattle.std.proofs.lemmas.Bool.{cond-true, cond-false, false≢true, cases_lt, lt-ltb, le-ltb, and_parts, eqb-true, eq-eqb}
 use Rattle.record_core.specs.Nv.{IsGoodRecord}
 use Rattle.record_core.specs.declared.space.SpaceFault.{SpaceFault}
 use Rattle.record_core.specs.Space.{firmware_fault, good_bytes, stored_firmware_version}
@@ -10,17 +10,17 @@ use Rattle.board_core.specs.Counters.{Rose}
 use Rattle.board_core.specs.Flash.{FlashMedium}
 use Rattle.board_core.specs.Tpm.{Spaces}
 use Rattle.board_core.specs.World.{World}
-use Rattle.board_core.proofs.Stops.{made_only_observed, made_then}
+use Rattle.board_core.proofs.Stops.{made_only_observed, observed_made}
 use Rattle.vboot_tool.specs.declared.answer.Form.TheVariants as form
 use Rattle.vboot_tool.specs.declared.answer.Answer.{Answer}
 use Rattle.vboot_tool.specs.declared.answer.Answer.TheVariants as answers
 use Rattle.vboot_tool.specs.declared.plan.Found.{Found}
 use Rattle.vboot_tool.specs.declared.plan.Plan.{Plan}
-use Rattle.vboot_tool.specs.Page.{Counts, next_cell, standing_record}
+use Rattle.vboot_tool.specs.Page.{page_generation, Counts, next_cell, standing_record}
 use Rattle.vboot_tool.specs.Store.{KeepsWritten}
 use Rattle.vboot_tool.specs.Plan.{plan_of, boot_plan, KeepsVersion}
 use Rattle.vboot_tool.specs.Steps.{ReadsBoard, change_count, spaces_with, page_with, record_calls}
-use Rattle.vboot_tool.specs.Boot.{plan_count, spaces_after, page_after, IsFull, IsDone, Stands, LeavesDone, WroteThoughFailed, StoringBegan, BootOutcome, IsWhole, ChangesNothing, CarriesOut, Boots}
+use Rattle.vboot_tool.specs.Boot.{plan_count, spaces_after, page_after, IsFull, IsDone, Stands, LeavesDone, WroteThoughFailed, StoringBegan, BootOutcome, IsWhole, ChangesNothing, CallsOfPlan, CarriesOut, Boots}
 use Rattle.vboot_tool.proofs.Standing.{standing_record-appended}
 
 -- ---- a fault while reading
@@ -54,6 +54,7 @@ boots_read_fault switch old new fault read = record {
   tpm_calls = 0;
   tpm_few = omega arith;
   tpm = made_only_observed _ _ _ read.tpm;
+  calls = λ told told'. record { flash_few = omega arith; tpm_few = omega arith; flash_all = λ whole. absurd whole; tpm_all = λ whole. absurd whole };
   flash_size = ap (λ (m : FlashMedium). m.size) read.medium;
   flash_told = ap (λ (m : FlashMedium). m.told) read.medium;
   tpm_told = read.tpm_told;
@@ -66,7 +67,8 @@ boots_read_fault switch old new fault read = record {
   unchanged = tt;
   kept = λ told. kept_same old new read.medium;
   kernel = λ told. ap (λ (s : Spaces). s.kernel) read.spaces;
-  version = λ told told'. ap (λ (s : Spaces). stored_firmware_version s.firmware) read.spaces;
+  version = λ told. ap (λ (s : Spaces). stored_firmware_version s.firmware) read.spaces;
+  faulty = λ told some. ap (λ (s : Spaces). s.firmware) read.spaces;
   outcome = λ told told'. read_leaves (boot_plan switch old.flash.medium.bytes old.tpm.spaces) old new fault read.none_done read.medium read.spaces;
   full_stays = λ told told' full. record { flash = read.medium; spaces = read.spaces };
   stands = λ told told' whole. absurd whole;
@@ -83,6 +85,7 @@ boots_full switch old new found plan read is_plan some counts last = record {
   tpm_calls = 0;
   tpm_few = omega arith;
   tpm = made_only_observed _ _ _ read.tpm;
+  calls = λ told told'. record { flash_few = omega arith; tpm_few = omega arith; flash_all = λ whole. absurd whole; tpm_all = λ whole. absurd whole };
   flash_size = ap (λ (m : FlashMedium). m.size) read.medium;
   flash_told = ap (λ (m : FlashMedium). m.told) read.medium;
   tpm_told = read.tpm_told;
@@ -95,7 +98,8 @@ boots_full switch old new found plan read is_plan some counts last = record {
   unchanged = record { flash = read.medium; spaces = read.spaces };
   kept = λ told. kept_same old new read.medium;
   kernel = λ told. ap (λ (s : Spaces). s.kernel) read.spaces;
-  version = λ told told'. ap (λ (s : Spaces). stored_firmware_version s.firmware) read.spaces;
+  version = λ told. ap (λ (s : Spaces). stored_firmware_version s.firmware) read.spaces;
+  faulty = λ told some. ap (λ (s : Spaces). s.firmware) read.spaces;
   outcome = λ told told'.
       let is = read.state told in
       let here : plan ≡ boot_plan switch old.flash.medium.bytes old.tpm.spaces = is_plan ∙ ap (plan_of switch) (read.found told told') in
@@ -123,6 +127,17 @@ version_of None old new keeps (inr written) = ap (λ (s : Spaces). stored_firmwa
 version_of (Some firmware) old new keeps (inr written) =
     ap (λ (s : Spaces). stored_firmware_version s.firmware) written ∙ version_kept (firmware_fault old.firmware) old.firmware firmware keeps
 
+-- a space that has a fault is not written
+no_change_of : (fault : Option SpaceFault) (bytes new : List ℕ) → IsSome fault → KeepsVersion (good_bytes fault bytes) new → ⊥
+no_change_of None bytes new some kept = false≢true some
+no_change_of (Some fault) bytes new some kept = kept
+
+faulty_of : (change : Option (List ℕ)) (old new : Spaces) → IfSome change (KeepsVersion (good_bytes (firmware_fault old.firmware) old.firmware)) → IsSome (firmware_fault old.firmware)
+    → (new ≡ old) ⊎ (new ≡ spaces_with change old) → new.firmware ≡ old.firmware
+faulty_of change old new keeps some (inl same) = ap (λ (s : Spaces). s.firmware) same
+faulty_of None old new keeps some (inr written) = ap (λ (s : Spaces). s.firmware) written
+faulty_of (Some firmware) old new keeps some (inr written) = absurd (no_change_of (firmware_fault old.firmware) old.firmware firmware some keeps)
+
 -- the record that was to be stored stands
 stands_in : (change : Option (List ℕ)) (page new r : List ℕ) → new ≡ page_with change page → change ≡ Some r → length page ≡ 4096 → IfSome change IsGoodRecord → (Counts page → next_cell page < 255) → standing_record new ≡ Some r
 stands_in None page new r is none size good room = absurd cc
@@ -144,6 +159,7 @@ done_before : (plan : Plan) (old mid new : World) → SameBefore old mid → IsD
 done_before plan old mid new same is_done = record {
   spaces = is_done.spaces ∙ ap (spaces_with plan.firmware) same.spaces;
   page = is_done.page ∙ ap (λ (m : FlashMedium). page_with plan.nv m.bytes) same.medium;
+  torn = is_done.torn ∙ ap (λ (m : FlashMedium). m.torn) same.medium;
 }
 
 written_before : (plan : Plan) (old mid new : World) (fault : Fault) → SameBefore old mid → WroteThoughFailed plan mid new fault → WroteThoughFailed plan old new fault
@@ -221,6 +237,8 @@ boots_carried switch old mid new found plan answer read is_plan good version roo
     let same : SameBefore old mid = record { medium = read.medium; spaces = read.spaces; flash_broken = read.flash.failed_changes; tpm_broken = read.tpm.failed_changes } in
     let either : IsTrue old.tpm.told → (new.tpm.spaces ≡ old.tpm.spaces) ⊎ (new.tpm.spaces ≡ spaces_with plan.firmware old.tpm.spaces) = λ told.
     subst (λ (s : Spaces). (new.tpm.spaces ≡ s) ⊎ (new.tpm.spaces ≡ spaces_with plan.firmware s)) read.spaces (carried.spaces (subst IsTrue (sym read.tpm_told) told)) in
+    let keeps : IsTrue old.tpm.told → IfSome plan.firmware (KeepsVersion (good_bytes (firmware_fault old.tpm.spaces.firmware) old.tpm.spaces.firmware)) = λ told.
+    subst (λ (f : Result (List ℕ) SpaceFault). IfSome plan.firmware (KeepsVersion f)) (read.firmware told) version in
     let here : IsTrue old.flash.medium.told → IsTrue old.tpm.told → plan ≡ boot_plan switch old.flash.medium.bytes old.tpm.spaces = λ told told'. is_plan ∙ ap (plan_of switch) (read.found told told') in
     let outcome : IsTrue old.flash.medium.told → IsTrue old.tpm.told → BootOutcome plan old new answer = λ told told'.
     outcome_before plan old mid new answer same (carried.outcome (subst (λ (m : FlashMedium). IsTrue m.told) (sym read.medium) told) (subst IsTrue (sym read.tpm_told) told')) in
@@ -232,12 +250,15 @@ boots_carried switch old mid new found plan answer read is_plan good version roo
     let lower : next_cell old.flash.medium.bytes < 255 = room_in told full.change full.counts in
     omega (arith, full.no_cell, lower) in
     record {
-      flash_calls = 0 + carried.flash_calls;
-      flash_few = omega (arith, carried.flash_few, few_record_calls plan.nv found.state.generation);
-      flash = made_then _ _ _ 0 carried.flash_calls _ (made_only_observed _ _ _ read.flash) carried.flash;
-      tpm_calls = 0 + carried.tpm_calls;
-      tpm_few = omega (arith, carried.tpm_few, few_changes plan.firmware);
-      tpm = made_then _ _ _ 0 carried.tpm_calls _ (made_only_observed _ _ _ read.tpm) carried.tpm;
+      flash_calls = carried.flash_calls;
+      flash_few = omega (arith, carried.calls.flash_few, few_record_calls plan.nv found.state.generation);
+      flash = observed_made _ _ _ _ _ read.flash carried.flash;
+      tpm_calls = carried.tpm_calls;
+      tpm_few = omega (arith, carried.calls.tpm_few, few_changes plan.firmware);
+      tpm = observed_made _ _ _ _ _ read.tpm carried.tpm;
+      calls = λ told told'.
+          subst (λ (p : Plan). CallsOfPlan p (page_generation old.flash.medium.bytes) carried.flash_calls carried.tpm_calls answer) (here told told')
+          (subst (λ (generation : Option ℕ). CallsOfPlan plan generation carried.flash_calls carried.tpm_calls answer) (read.state told).generation carried.calls);
       flash_size = carried.flash_size ∙ ap (λ (m : FlashMedium). m.size) read.medium;
       flash_told = carried.flash_told ∙ ap (λ (m : FlashMedium). m.told) read.medium;
       tpm_told = carried.tpm_told ∙ read.tpm_told;
@@ -250,9 +271,8 @@ boots_carried switch old mid new found plan answer read is_plan good version roo
       unchanged = unchanged_before old mid new answer same carried.unchanged;
       kept = λ told. subst (λ (m : FlashMedium). KeepsWritten m.bytes new.flash.medium.bytes) read.medium (carried.kept (subst (λ (m : FlashMedium). IsTrue m.told) (sym read.medium) told));
       kernel = λ told. kernel_of plan.firmware old.tpm.spaces new.tpm.spaces (either told);
-      version = λ told told'.
-          let firmware_is : found.firmware ≡ good_bytes (firmware_fault old.tpm.spaces.firmware) old.tpm.spaces.firmware = ap (λ (f : Found). f.firmware) (read.found told told') in
-          version_of plan.firmware old.tpm.spaces new.tpm.spaces (subst (λ (f : Result (List ℕ) SpaceFault). IfSome plan.firmware (KeepsVersion f)) firmware_is version) (either told');
+      version = λ told. version_of plan.firmware old.tpm.spaces new.tpm.spaces (keeps told) (either told);
+      faulty = λ told some. faulty_of plan.firmware old.tpm.spaces new.tpm.spaces (keeps told) some (either told);
       outcome = λ told told'. subst (λ (p : Plan). BootOutcome p old new answer) (here told told') (outcome told told');
       full_stays = λ told told' full. absurd (not_full told told' (subst (λ (p : Plan). IsFull p old.flash.medium.bytes) (sym (here told told')) full));
       stands = λ told told' whole.

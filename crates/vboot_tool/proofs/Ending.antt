@@ -1,14 +1,13 @@
 -- What holds at each exit status, by the answer that was printed.
 use Rattle.std.proofs.Common.{◌≡◌, ℕ, ◌≤◌, Bool, true, false, List, ◌++◌, length, None, refl, sym, ap, subst, ◌∙◌, arith}
-use Rattle.std.specs.Prelude.{IsTrue, is_some}
-use Rattle.std.proofs.lemmas.Bool.{eq-eqb, false≢true}
-use Rattle.record_core.specs.Space.{stored_firmware_version, stored_kernel_version}
+use Rattle.std.specs.Prelude.{IsTrue, IsSome, is_some, ◌==◌}
+use Rattle.std.proofs.lemmas.Bool.{eq-eqb, eqb-true, false≢true}
+use Rattle.record_core.specs.Space.{firmware_fault, stored_firmware_version}
 use Rattle.board_core.specs.declared.device.Device.{Device}
 use Rattle.board_core.specs.declared.device.Device.TheVariants as device
-use Rattle.board_core.specs.Counters.{Rose}
 use Rattle.board_core.specs.Fault.{same_device}
 use Rattle.board_core.specs.Streams.{StreamState}
-use Rattle.board_core.specs.Tpm.{Spaces}
+use Rattle.board_core.specs.Tpm.{Spaces, unlocked}
 use Rattle.board_core.specs.World.{World}
 use Rattle.fwsel_core.specs.declared.boot_mode.Mode.{Mode}
 use Rattle.fwsel_core.specs.declared.boot_mode.Mode.TheVariants.{Normal, Developer, Manual, Broken}
@@ -21,9 +20,9 @@ use Rattle.vboot_tool.specs.Answer.{text_of, code_of, device_code}
 use Rattle.vboot_tool.specs.declared.plan.Found.{Found}
 use Rattle.vboot_tool.specs.declared.plan.Outcome.TheVariants as outcome
 use Rattle.vboot_tool.specs.Plan.{plan_in, plan_of, facts_of, found_in, found_record, boot_plan}
-use Rattle.vboot_tool.specs.Steps.{IsBoardDevice}
+use Rattle.vboot_tool.specs.Steps.{IsBoardDevice, both_locked}
 use Rattle.vboot_tool.specs.Boot.{IsFull, IsUnchanged, Boots}
-use Rattle.vboot_tool.specs.Run.{boot_words, IsCommand, BootsBy, Works, Prints, Runs, GoesOn, EndsAtScreen, FindsFull, IsToldBoot, outcome_code, Ends}
+use Rattle.vboot_tool.specs.Run.{boot_words, IsCommand, BootsBy, Works, Prints, Runs, GoesOn, EndsAtScreen, FindsFull, IsToldBoot, outcome_code, OneFailed, Ends}
 
 -- the status is that of the answer, and all of its text was put
 pub record Shown (given : Answer) (put put' : StreamState) (status : Status) : Type 0 where
@@ -69,6 +68,13 @@ board_code device.Tpm is = omega arith
 board_code device.Disk is = absurd is
 board_code device.Stick is = absurd is
 board_code device.Hook is = absurd is
+
+no_board_code : (which : Device) → IsBoardDevice which → (device_code which ≡ 5 → ⊥) → (device_code which ≡ 6 → ⊥) → ⊥
+no_board_code device.Flash is not_flash not_tpm = not_flash refl
+no_board_code device.Tpm is not_flash not_tpm = not_tpm refl
+no_board_code device.Disk is not_flash not_tpm = absurd is
+no_board_code device.Stick is not_flash not_tpm = absurd is
+no_board_code device.Hook is not_flash not_tpm = absurd is
 
 -- ---- what holds at each status, by the answer
 
@@ -119,9 +125,26 @@ usage_at words old new put put' status (answers.NotBuilt f) by shown code = absu
 usage_at words old new put put' status answers.NvFull by shown code = absurd (omega (arith, shown.code))
 usage_at words old new put put' status (answers.Fault fault) by shown code = absurd (omega (arith, shown.code, code-high fault.device))
 
+-- the other device did not fail
+not_tpm : (which : Device) → device_code which ≡ 5 → same_device device.Tpm which ≡ false
+not_tpm device.Flash code = refl
+not_tpm device.Tpm code = absurd (omega (arith, code))
+not_tpm device.Disk code = refl
+not_tpm device.Stick code = refl
+not_tpm device.Hook code = refl
+
+not_flash : (which : Device) → device_code which ≡ 6 → same_device device.Flash which ≡ false
+not_flash device.Flash code = absurd (omega (arith, code))
+not_flash device.Tpm code = refl
+not_flash device.Disk code = refl
+not_flash device.Stick code = refl
+not_flash device.Hook code = refl
+
 flash_fault_at : (words : List (List ℕ)) (old new : World) (put put' : StreamState) (status : Status) (given : Answer) → Works words old new given → Shown given put put' status → status.code ≡ 5
-    → Rose old.flash.counters.faults new.flash.counters.faults
-flash_fault_at words old new put put' status (answers.Fault fault) by shown code = by.boots.flash.cause (flash_of fault.device (sym shown.code ∙ code))
+    → OneFailed old.flash.counters new.flash.counters old.tpm.counters new.tpm.counters
+flash_fault_at words old new put put' status (answers.Fault fault) by shown code =
+    let is = sym shown.code ∙ code in
+    record { once = by.boots.flash.cause (flash_of fault.device is); other_none = by.boots.tpm.no_fault (not_tpm fault.device is) }
 flash_fault_at words old new put put' status answers.Usage by shown code = absurd (omega (arith, shown.code))
 flash_fault_at words old new put put' status (answers.Selected developer slot) by shown code = absurd (omega (arith, shown.code))
 flash_fault_at words old new put put' status (answers.Screen reason subcode) by shown code = absurd (omega (arith, shown.code))
@@ -129,13 +152,48 @@ flash_fault_at words old new put put' status (answers.NotBuilt f) by shown code 
 flash_fault_at words old new put put' status answers.NvFull by shown code = absurd (omega (arith, shown.code))
 
 tpm_fault_at : (words : List (List ℕ)) (old new : World) (put put' : StreamState) (status : Status) (given : Answer) → Works words old new given → Shown given put put' status → status.code ≡ 6
-    → Rose old.tpm.counters.faults new.tpm.counters.faults
-tpm_fault_at words old new put put' status (answers.Fault fault) by shown code = by.boots.tpm.cause (tpm_of fault.device (sym shown.code ∙ code))
+    → OneFailed old.tpm.counters new.tpm.counters old.flash.counters new.flash.counters
+tpm_fault_at words old new put put' status (answers.Fault fault) by shown code =
+    let is = sym shown.code ∙ code in
+    record { once = by.boots.tpm.cause (tpm_of fault.device is); other_none = by.boots.flash.no_fault (not_flash fault.device is) }
 tpm_fault_at words old new put put' status answers.Usage by shown code = absurd (omega (arith, shown.code))
 tpm_fault_at words old new put put' status (answers.Selected developer slot) by shown code = absurd (omega (arith, shown.code))
 tpm_fault_at words old new put put' status (answers.Screen reason subcode) by shown code = absurd (omega (arith, shown.code))
 tpm_fault_at words old new put put' status (answers.NotBuilt f) by shown code = absurd (omega (arith, shown.code))
 tpm_fault_at words old new put put' status answers.NvFull by shown code = absurd (omega (arith, shown.code))
+
+-- what both devices counted where neither fault is answered
+record BoardNoneFailed (old new : World) : Type 0 where
+  pub flash : new.flash.counters.faults ≡ old.flash.counters.faults
+  pub tpm : new.tpm.counters.faults ≡ old.tpm.counters.faults
+
+same_counts : (old new : World) → new ≡ old → BoardNoneFailed old new
+same_counts old new same = record { flash = ap (λ (w : World). w.flash.counters.faults) same; tpm = ap (λ (w : World). w.tpm.counters.faults) same }
+
+none_failed_of : (words : List (List ℕ)) (old new : World) (given : Answer) → Works words old new given → (code_of given ≡ 5 → ⊥) → (code_of given ≡ 6 → ⊥) → BoardNoneFailed old new
+none_failed_of words old new answers.Usage by not_flash not_tpm = same_counts old new by.1
+none_failed_of words old new (answers.NotBuilt form.Flash) by not_flash not_tpm = same_counts old new by.2
+none_failed_of words old new (answers.Selected developer slot) by not_flash not_tpm = record { flash = by.boots.flash.no_fault refl; tpm = by.boots.tpm.no_fault refl }
+none_failed_of words old new (answers.Screen reason subcode) by not_flash not_tpm = record { flash = by.boots.flash.no_fault refl; tpm = by.boots.tpm.no_fault refl }
+none_failed_of words old new (answers.NotBuilt form.Recovery) by not_flash not_tpm = record { flash = by.boots.flash.no_fault refl; tpm = by.boots.tpm.no_fault refl }
+none_failed_of words old new answers.NvFull by not_flash not_tpm = record { flash = by.boots.flash.no_fault refl; tpm = by.boots.tpm.no_fault refl }
+none_failed_of words old new (answers.Fault fault) by not_flash not_tpm = absurd (no_board_code fault.device by.boots.fault not_flash not_tpm)
+
+locked_at : (words : List (List ℕ)) (old new : World) (put put' : StreamState) (status : Status) (given : Answer) → Works words old new given → Shown given put put' status → status.code ≡ 0 → new.tpm.locks ≡ both_locked
+locked_at words old new put put' status (answers.Selected developer slot) by shown code = by.boots.locks
+locked_at words old new put put' status (answers.Screen reason subcode) by shown code = absurd (omega (arith, shown.code))
+locked_at words old new put put' status answers.Usage by shown code = absurd (omega (arith, shown.code))
+locked_at words old new put put' status (answers.NotBuilt f) by shown code = absurd (omega (arith, shown.code))
+locked_at words old new put put' status answers.NvFull by shown code = absurd (omega (arith, shown.code))
+locked_at words old new put put' status (answers.Fault fault) by shown code = absurd (omega (arith, shown.code, code-high fault.device))
+
+unlocked_at : (words : List (List ℕ)) (old new : World) (put put' : StreamState) (status : Status) (given : Answer) → Works words old new given → Shown given put put' status → status.code ≡ 3 → new.tpm.locks ≡ unlocked
+unlocked_at words old new put put' status (answers.Screen reason subcode) by shown code = by.boots.locks
+unlocked_at words old new put put' status (answers.Selected developer slot) by shown code = absurd (omega (arith, shown.code))
+unlocked_at words old new put put' status answers.Usage by shown code = absurd (omega (arith, shown.code))
+unlocked_at words old new put put' status (answers.NotBuilt f) by shown code = absurd (omega (arith, shown.code))
+unlocked_at words old new put put' status answers.NvFull by shown code = absurd (omega (arith, shown.code))
+unlocked_at words old new put put' status (answers.Fault fault) by shown code = absurd (omega (arith, shown.code, code-high fault.device))
 
 full_at : (words : List (List ℕ)) (old new : World) (put put' : StreamState) (status : Status) (given : Answer) → Works words old new given → Shown given put put' status → status.code ≡ 18 → FindsFull words old new
 full_at words old new put put' status answers.NvFull by shown code = record { switch = by.switch; by_words = by.by_words; full = by.boots.outcome; unchanged = by.boots.unchanged }
@@ -217,13 +275,6 @@ switch_is_by_hand : (page : List ℕ) (spaces : Spaces) → (boot_plan true page
 unfolding plan_of
 switch_is_by_hand page spaces = refl
 
-no_board_code : (which : Device) → IsBoardDevice which → (device_code which ≡ 5 → ⊥) → (device_code which ≡ 6 → ⊥) → ⊥
-no_board_code device.Flash is not_flash not_tpm = not_flash refl
-no_board_code device.Tpm is not_flash not_tpm = not_tpm refl
-no_board_code device.Disk is not_flash not_tpm = absurd is
-no_board_code device.Stick is not_flash not_tpm = absurd is
-no_board_code device.Hook is not_flash not_tpm = absurd is
-
 full_of : (words : List (List ℕ)) (old new : World) (given : Answer) (switch : Bool) → Works words old new given → IsToldBoot switch words old
     → IsFull (boot_plan switch old.flash.medium.bytes old.tpm.spaces) old.flash.medium.bytes → (code_of given ≡ 5 → ⊥) → (code_of given ≡ 6 → ⊥) → code_of given ≡ 18
 full_of words old new answers.Usage switch by told full not_flash not_tpm = absurd (by.0 (switch, told.by_words))
@@ -270,24 +321,41 @@ full_stays_of words old new (answers.Fault fault) switch by told full = (boots_a
 
 -- ---- the spaces at every answer
 
-kernel_of : (words : List (List ℕ)) (old new : World) (given : Answer) → Works words old new given → IsTrue old.tpm.told → stored_kernel_version new.tpm.spaces.kernel ≡ stored_kernel_version old.tpm.spaces.kernel
-kernel_of words old new answers.Usage by told = ap (λ (w : World). stored_kernel_version w.tpm.spaces.kernel) by.1
-kernel_of words old new (answers.Selected developer slot) by told = ap stored_kernel_version (by.boots.kernel told)
-kernel_of words old new (answers.Screen reason subcode) by told = ap stored_kernel_version (by.boots.kernel told)
-kernel_of words old new (answers.NotBuilt form.Flash) by told = ap (λ (w : World). stored_kernel_version w.tpm.spaces.kernel) by.2
-kernel_of words old new (answers.NotBuilt form.Recovery) by told = ap stored_kernel_version (by.boots.kernel told)
-kernel_of words old new answers.NvFull by told = ap stored_kernel_version (by.boots.kernel told)
-kernel_of words old new (answers.Fault fault) by told = ap stored_kernel_version (by.boots.kernel told)
+kernel_of : (words : List (List ℕ)) (old new : World) (given : Answer) → Works words old new given → IsTrue old.tpm.told → new.tpm.spaces.kernel ≡ old.tpm.spaces.kernel
+kernel_of words old new answers.Usage by told = ap (λ (w : World). w.tpm.spaces.kernel) by.1
+kernel_of words old new (answers.Selected developer slot) by told = by.boots.kernel told
+kernel_of words old new (answers.Screen reason subcode) by told = by.boots.kernel told
+kernel_of words old new (answers.NotBuilt form.Flash) by told = ap (λ (w : World). w.tpm.spaces.kernel) by.2
+kernel_of words old new (answers.NotBuilt form.Recovery) by told = by.boots.kernel told
+kernel_of words old new answers.NvFull by told = by.boots.kernel told
+kernel_of words old new (answers.Fault fault) by told = by.boots.kernel told
 
-version_of : (words : List (List ℕ)) (old new : World) (given : Answer) → Works words old new given → IsTrue old.flash.medium.told → IsTrue old.tpm.told
+version_of : (words : List (List ℕ)) (old new : World) (given : Answer) → Works words old new given → IsTrue old.tpm.told
     → stored_firmware_version new.tpm.spaces.firmware ≡ stored_firmware_version old.tpm.spaces.firmware
-version_of words old new answers.Usage by told told' = ap (λ (w : World). stored_firmware_version w.tpm.spaces.firmware) by.1
-version_of words old new (answers.Selected developer slot) by told told' = by.boots.version told told'
-version_of words old new (answers.Screen reason subcode) by told told' = by.boots.version told told'
-version_of words old new (answers.NotBuilt form.Flash) by told told' = ap (λ (w : World). stored_firmware_version w.tpm.spaces.firmware) by.2
-version_of words old new (answers.NotBuilt form.Recovery) by told told' = by.boots.version told told'
-version_of words old new answers.NvFull by told told' = by.boots.version told told'
-version_of words old new (answers.Fault fault) by told told' = by.boots.version told told'
+version_of words old new answers.Usage by told = ap (λ (w : World). stored_firmware_version w.tpm.spaces.firmware) by.1
+version_of words old new (answers.Selected developer slot) by told = by.boots.version told
+version_of words old new (answers.Screen reason subcode) by told = by.boots.version told
+version_of words old new (answers.NotBuilt form.Flash) by told = ap (λ (w : World). stored_firmware_version w.tpm.spaces.firmware) by.2
+version_of words old new (answers.NotBuilt form.Recovery) by told = by.boots.version told
+version_of words old new answers.NvFull by told = by.boots.version told
+version_of words old new (answers.Fault fault) by told = by.boots.version told
+
+faulty_of : (words : List (List ℕ)) (old new : World) (given : Answer) → Works words old new given → IsTrue old.tpm.told → IsSome (firmware_fault old.tpm.spaces.firmware)
+    → new.tpm.spaces.firmware ≡ old.tpm.spaces.firmware
+faulty_of words old new answers.Usage by told some = ap (λ (w : World). w.tpm.spaces.firmware) by.1
+faulty_of words old new (answers.Selected developer slot) by told some = by.boots.faulty told some
+faulty_of words old new (answers.Screen reason subcode) by told some = by.boots.faulty told some
+faulty_of words old new (answers.NotBuilt form.Flash) by told some = ap (λ (w : World). w.tpm.spaces.firmware) by.2
+faulty_of words old new (answers.NotBuilt form.Recovery) by told some = by.boots.faulty told some
+faulty_of words old new answers.NvFull by told some = by.boots.faulty told some
+faulty_of words old new (answers.Fault fault) by told some = by.boots.faulty told some
+
+not_true : (x : Bool) → (x ≡ true → ⊥) → x ≡ false
+not_true true other = absurd (other refl)
+not_true false other = refl
+
+other_number : (a b : ℕ) → (a ≡ b → ⊥) → (a == b) ≡ false
+other_number a b differ = not_true (a == b) (λ same. differ (eqb-true a b same))
 
 apart : (a b : ℕ) (status : Status) → status.code ≡ a → (a ≡ b → ⊥) → status.code ≡ b → ⊥
 apart a b status code differ other = differ (sym code ∙ other)
@@ -322,6 +390,13 @@ ends_of words old new put put' status runs =
           let code = runs.prints.code no_fault.sink in
           code ∙ recovery_of words old new given by told (λ e. no_fault.flash (code ∙ e)) (λ e. no_fault.tpm (code ∙ e));
       full_stays = λ switch told full. full_stays_of words old new given switch by told full;
+      none_failed = λ no_fault.
+          let code = runs.prints.code no_fault.sink in
+          let board = none_failed_of words old new given by (λ e. no_fault.flash (code ∙ e)) (λ e. no_fault.tpm (code ∙ e)) in
+          record { flash = board.flash; tpm = board.tpm; sink = runs.prints.faults.no_fault (other_number status.code 9 no_fault.sink) };
+      locked = λ code. locked_at words old new put put' status given by (s 0 code (λ e. omega arith)) code;
+      left_unlocked = λ code. unlocked_at words old new put put' status given by (s 3 code (λ e. omega arith)) code;
       kernel = kernel_of words old new given by;
       version = version_of words old new given by;
+      faulty = faulty_of words old new given by;
     }

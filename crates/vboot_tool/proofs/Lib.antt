@@ -7,3 +7,4 @@ pub mod Standing
 pub mod Words
 pub mod Booting
 pub mod Ending
+pub mod Fronts

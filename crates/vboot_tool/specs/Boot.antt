@@ -1,6 +1,6 @@
 -- One boot over a board: what its answer says of the plan, and what it leaves.
 use Rattle.std.specs.Prelude.{◌≡◌, ◌⊎◌, ℕ, ◌+◌, ◌≤◌, nat_lt, Bool, false, IsTrue, List, Option, Some, IsSome, if◌then◌else◌, ◌==◌}
-use Rattle.record_core.specs.Space.{stored_firmware_version}
+use Rattle.record_core.specs.Space.{firmware_fault, stored_firmware_version}
 use Rattle.board_core.specs.declared.device.Device.{Device}
 use Rattle.board_core.specs.declared.device.Device.TheVariants as device
 use Rattle.board_core.specs.declared.device.Fault.{Fault}
@@ -13,7 +13,7 @@ use Rattle.vboot_tool.specs.declared.answer.Answer.{Answer}
 use Rattle.vboot_tool.specs.declared.answer.Answer.TheVariants as answers
 use Rattle.vboot_tool.specs.declared.plan.Outcome.TheVariants as outcome
 use Rattle.vboot_tool.specs.declared.plan.Plan.{Plan}
-use Rattle.vboot_tool.specs.Page.{Counts, standing_record, next_cell}
+use Rattle.vboot_tool.specs.Page.{page_generation, Counts, standing_record, next_cell}
 use Rattle.vboot_tool.specs.Store.{KeepsWritten}
 use Rattle.vboot_tool.specs.Plan.{boot_plan}
 use Rattle.vboot_tool.specs.Steps.{IsBoardDevice, both_locked, change_count, spaces_with, page_with, record_calls}
@@ -38,10 +38,11 @@ pub record IsFull (plan : Plan) (page : List ℕ) : Type 0 where
   pub no_cell : next_cell page ≡ 255
   pub change : IsSome plan.nv
 
--- All changes of a plan are made.
+-- All changes of a plan are made, and nothing is torn.
 pub record IsDone (plan : Plan) (old new : World) : Type 0 where
   pub spaces : new.tpm.spaces ≡ spaces_with plan.firmware old.tpm.spaces
   pub page : new.flash.medium.bytes ≡ page_with plan.nv old.flash.medium.bytes
+  pub torn : new.flash.medium.torn ≡ old.flash.medium.torn
 
 -- Where a record was to be stored, it stands, and there was a place for it.
 pub record Stands (plan : Plan) (old new : World) : Type 0 where
@@ -115,14 +116,20 @@ IsWhole (answers.Selected developer slot) = Unit {0}
 IsWhole (answers.Screen reason subcode) = Unit {0}
 IsWhole other = ⊥
 
+-- How many changing calls are made on each device: no more than the changes of the plan have, and as many where all are made.
+pub record CallsOfPlan (plan : Plan) (generation : Option ℕ) (flash_calls tpm_calls : ℕ) (answer : Answer) : Type 0 where
+  pub flash_few : flash_calls ≤ record_calls plan.nv generation
+  pub tpm_few : tpm_calls ≤ change_count plan.firmware
+  pub flash_all : IsWhole answer → flash_calls ≡ record_calls plan.nv generation
+  pub tpm_all : IsWhole answer → tpm_calls ≡ change_count plan.firmware
+
 -- What carrying out a plan does to a board whose spaces are unlocked, by its answer.
 pub record CarriesOut (plan : Plan) (generation : Option ℕ) (old new : World) (answer : Answer) : Type 0 where
   pub flash_calls : ℕ
-  pub flash_few : flash_calls ≤ record_calls plan.nv generation
   pub flash : MadeChanges old.flash.counters new.flash.counters flash_calls (is_answer_of device.Flash answer)
   pub tpm_calls : ℕ
-  pub tpm_few : tpm_calls ≤ change_count plan.firmware
   pub tpm : MadeChanges old.tpm.counters new.tpm.counters tpm_calls (is_answer_of device.Tpm answer)
+  pub calls : CallsOfPlan plan generation flash_calls tpm_calls answer
   pub flash_size : new.flash.medium.size ≡ old.flash.medium.size
   pub flash_told : new.flash.medium.told ≡ old.flash.medium.told
   pub tpm_told : new.tpm.told ≡ old.tpm.told
@@ -141,13 +148,16 @@ pub record CarriesOut (plan : Plan) (generation : Option ℕ) (old new : World) 
 
 -- What a boot does to its board, by its answer. `switch` is the recovery switch.
 pub record Boots (switch : Bool) (old new : World) (answer : Answer) : Type 0 where
-  -- how many changing calls were made on each device, and a fault is answered only where that very device counted one
+  -- how many changing calls were made on each device; the one device that failed counted it, and the other counted nothing
   pub flash_calls : ℕ
   pub flash_few : flash_calls ≤ 3
   pub flash : MadeChanges old.flash.counters new.flash.counters flash_calls (is_answer_of device.Flash answer)
   pub tpm_calls : ℕ
   pub tpm_few : tpm_calls ≤ 1
   pub tpm : MadeChanges old.tpm.counters new.tpm.counters tpm_calls (is_answer_of device.Tpm answer)
+  -- they are those of the plan
+  pub calls : IsTrue old.flash.medium.told → IsTrue old.tpm.told
+      → CallsOfPlan (boot_plan switch old.flash.medium.bytes old.tpm.spaces) (page_generation old.flash.medium.bytes) flash_calls tpm_calls answer
   pub flash_size : new.flash.medium.size ≡ old.flash.medium.size
   pub flash_told : new.flash.medium.told ≡ old.flash.medium.told
   pub tpm_told : new.tpm.told ≡ old.tpm.told
@@ -160,9 +170,10 @@ pub record Boots (switch : Bool) (old new : World) (answer : Answer) : Type 0 wh
   pub unchanged : ChangesNothing answer old new
   -- at every answer, the head and the cells before the erased tail of a page that counts are as they were
   pub kept : IsTrue old.flash.medium.told → KeepsWritten old.flash.medium.bytes new.flash.medium.bytes
-  -- at every answer the kernel space is as it was, and the firmware space has its version
+  -- at every answer the kernel space is as it was, the firmware space has its version, and one that has a fault is as it was
   pub kernel : IsTrue old.tpm.told → new.tpm.spaces.kernel ≡ old.tpm.spaces.kernel
-  pub version : IsTrue old.flash.medium.told → IsTrue old.tpm.told → stored_firmware_version new.tpm.spaces.firmware ≡ stored_firmware_version old.tpm.spaces.firmware
+  pub version : IsTrue old.tpm.told → stored_firmware_version new.tpm.spaces.firmware ≡ stored_firmware_version old.tpm.spaces.firmware
+  pub faulty : IsTrue old.tpm.told → IsSome (firmware_fault old.tpm.spaces.firmware) → new.tpm.spaces.firmware ≡ old.tpm.spaces.firmware
   pub outcome : IsTrue old.flash.medium.told → IsTrue old.tpm.told → BootOutcome (boot_plan switch old.flash.medium.bytes old.tpm.spaces) old new answer
   -- at every answer, a full page changes nothing
   pub full_stays : IsTrue old.flash.medium.told → IsTrue old.tpm.told → IsFull (boot_plan switch old.flash.medium.bytes old.tpm.spaces) old.flash.medium.bytes → IsUnchanged old new

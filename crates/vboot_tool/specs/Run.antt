@@ -1,8 +1,9 @@
 -- What a run of the program does to its devices.
-use Rattle.std.specs.Prelude.{◌≡◌, ℕ, ◌≤◌, Bool, true, false, IsTrue, List, [], ◌∷◌, ◌++◌, length, take, codes, ◌==◌}
-use Rattle.record_core.specs.Space.{stored_firmware_version, stored_kernel_version}
+use Rattle.std.specs.Prelude.{◌≡◌, ℕ, ◌≤◌, Bool, true, false, IsTrue, IsSome, List, [], ◌∷◌, ◌++◌, length, take, codes, ◌==◌}
+use Rattle.record_core.specs.Space.{firmware_fault, stored_firmware_version}
 use Rattle.fwsel_core.specs.declared.slot.Slot.{Slot}
-use Rattle.board_core.specs.Counters.{Rose, CountsFaults}
+use Rattle.board_core.specs.declared.counters.Counters.{Counters}
+use Rattle.board_core.specs.Counters.{raised, CountsFaults}
 use Rattle.board_core.specs.Streams.{StreamState}
 use Rattle.board_core.specs.Tpm.{unlocked}
 use Rattle.board_core.specs.World.{World}
@@ -110,6 +111,19 @@ outcome_code (outcome.Selected developer slot) = 0
 outcome_code (outcome.Screen reason subcode) = 3
 outcome_code outcome.NotBuiltRecovery = 19
 
+-- ---- what the devices counted
+
+-- One call of a device failed, and no call of the other.
+pub record OneFailed (device device' other other' : Counters) : Type 0 where
+  pub once : device'.faults ≡ raised device.faults
+  pub other_none : other'.faults ≡ other.faults
+
+-- No call failed.
+pub record NoneFailed (old new : World) (put put' : StreamState) : Type 0 where
+  pub flash : new.flash.counters.faults ≡ old.flash.counters.faults
+  pub tpm : new.tpm.counters.faults ≡ old.tpm.counters.faults
+  pub sink : put'.faults ≡ put.faults
+
 -- ---- both ways
 
 pub record Ends (words : List (List ℕ)) (old new : World) (put put' : StreamState) (status : Status) : Type 0 where
@@ -117,12 +131,17 @@ pub record Ends (words : List (List ℕ)) (old new : World) (put put' : StreamSt
   -- the words are no command
   pub usage : status.code ≡ 1 → (IsCommand words → ⊥) × (new ≡ old)
   pub screen : status.code ≡ 3 → IsTrue old.flash.medium.told → IsTrue old.tpm.told → EndsAtScreen words old new put put'
-  pub flash_fault : status.code ≡ 5 → Rose old.flash.counters.faults new.flash.counters.faults
-  pub tpm_fault : status.code ≡ 6 → Rose old.tpm.counters.faults new.tpm.counters.faults
-  pub sink_fault : status.code ≡ 9 → Rose put.faults put'.faults
+  -- a fault is answered only where that very device failed, and the first call that fails ends the run
+  pub flash_fault : status.code ≡ 5 → OneFailed old.flash.counters new.flash.counters old.tpm.counters new.tpm.counters
+  pub tpm_fault : status.code ≡ 6 → OneFailed old.tpm.counters new.tpm.counters old.flash.counters new.flash.counters
+  pub sink_fault : status.code ≡ 9 → put'.faults ≡ raised put.faults
+  pub none_failed : IsNoFault status → NoneFailed old new put put'
   pub full : status.code ≡ 18 → FindsFull words old new
   -- what is not built yet changes nothing
   pub not_built : status.code ≡ 19 → IsUnchanged old new
+  -- the locks, whether the devices tell what they hold or not
+  pub locked : status.code ≡ 0 → new.tpm.locks ≡ both_locked
+  pub left_unlocked : status.code ≡ 3 → new.tpm.locks ≡ unlocked
   -- no other device fails
   pub other_fault : (status.code ≡ 7 → ⊥) × (status.code ≡ 8 → ⊥)
   -- and the other way: where the sink did not fail
@@ -135,6 +154,7 @@ pub record Ends (words : List (List ℕ)) (old new : World) (put put' : StreamSt
   pub on_recovery : IsToldBoot true words old → IsNoFault status → status.code ≡ 19
   -- at every status, a fault too, a boot that finds the page full changes nothing
   pub full_stays : (switch : Bool) → IsToldBoot switch words old → IsFull (boot_plan switch old.flash.medium.bytes old.tpm.spaces) old.flash.medium.bytes → IsUnchanged old new
-  -- at every status the kernel space is as it was, and the firmware space keeps its version
-  pub kernel : IsTrue old.tpm.told → stored_kernel_version new.tpm.spaces.kernel ≡ stored_kernel_version old.tpm.spaces.kernel
-  pub version : IsTrue old.flash.medium.told → IsTrue old.tpm.told → stored_firmware_version new.tpm.spaces.firmware ≡ stored_firmware_version old.tpm.spaces.firmware
+  -- at every status the kernel space is as it was, and the firmware space keeps its version, and its bytes where it has a fault
+  pub kernel : IsTrue old.tpm.told → new.tpm.spaces.kernel ≡ old.tpm.spaces.kernel
+  pub version : IsTrue old.tpm.told → stored_firmware_version new.tpm.spaces.firmware ≡ stored_firmware_version old.tpm.spaces.firmware
+  pub faulty : IsTrue old.tpm.told → IsSome (firmware_fault old.tpm.spaces.firmware) → new.tpm.spaces.firmware ≡ old.tpm.spaces.firmware

@@ -1,5 +1,6 @@
 -- The three steps of a boot over its board: reading, changing and locking.
 use Rattle.std.specs.Prelude.{◌≡◌, ◌⊎◌, ℕ, ◌+◌, ◌≤◌, true, IsTrue, List, Option, Some, None, IsSome, Result, is_err, OnOk, OnErr, IfOk, IfErr}
+use Rattle.record_core.specs.Space.{firmware_fault, good_bytes}
 use Rattle.board_core.specs.declared.device.Device.{Device}
 use Rattle.board_core.specs.declared.device.Device.TheVariants as device
 use Rattle.board_core.specs.declared.device.Fault.{Fault}
@@ -43,6 +44,7 @@ pub record ReadsBoard (old new : World) (result : Result Found Fault) : Type 0 w
   -- what is found is what the page and the spaces hold
   pub found : IsTrue old.flash.medium.told → IsTrue old.tpm.told → IfOk result (λ found. found ≡ found_in old.flash.medium.bytes old.tpm.spaces)
   pub state : IsTrue old.flash.medium.told → IfOk result (λ found. IsStateOf old.flash.medium.bytes found.state)
+  pub firmware : IsTrue old.tpm.told → IfOk result (λ found. found.firmware ≡ good_bytes (firmware_fault old.tpm.spaces.firmware) old.tpm.spaces.firmware)
   pub within : IfOk result (λ found. found.state.next ≤ 255)
 
 -- ---- changing
@@ -83,6 +85,7 @@ pub record StoresRecord {E : Type 0} (change : Option (List ℕ)) (generation : 
   pub told : new.medium.told ≡ old.medium.told
   pub count : IfOk result (λ count. count ≡ change_count change)
   pub ok : IsTrue old.medium.told → OnOk result (new.medium.bytes ≡ page_with change old.medium.bytes)
+  pub torn : IsTrue old.medium.told → OnOk result (new.medium.torn ≡ old.medium.torn)
   pub kept : IsTrue old.medium.told → KeepsWritten old.medium.bytes new.medium.bytes
   pub none : change ≡ None → new.medium ≡ old.medium
   pub some : OnErr result (IsSome change)
@@ -118,6 +121,7 @@ pub record MakesChanges (plan : Plan) (generation : Option ℕ) (old new : World
   pub calls : OnOk result (flash_calls ≡ record_calls plan.nv generation)
   pub spaces : IsTrue old.tpm.told → OnOk result (new.tpm.spaces ≡ spaces_with plan.firmware old.tpm.spaces)
   pub page : IsTrue old.flash.medium.told → OnOk result (new.flash.medium.bytes ≡ page_with plan.nv old.flash.medium.bytes)
+  pub torn : IsTrue old.flash.medium.told → OnOk result (new.flash.medium.torn ≡ old.flash.medium.torn)
   pub device : IfErr result (λ fault. IsBoardDevice fault.device)
   pub prefix : IfErr result (λ fault. LeavesPrefix plan old new fault.device fault.done)
 
@@ -162,5 +166,7 @@ pub record MakesAndLocks (plan : Plan) (generation : Option ℕ) (old new : Worl
   pub locked : OnOk result (new.tpm.locks ≡ both_locked)
   pub spaces : IsTrue old.tpm.told → OnOk result (new.tpm.spaces ≡ spaces_with plan.firmware old.tpm.spaces)
   pub page : IsTrue old.flash.medium.told → OnOk result (new.flash.medium.bytes ≡ page_with plan.nv old.flash.medium.bytes)
+  pub torn : IsTrue old.flash.medium.told → OnOk result (new.flash.medium.torn ≡ old.flash.medium.torn)
+  pub calls : OnOk result (flash_calls ≡ record_calls plan.nv generation)
   pub device : IfErr result (λ fault. IsBoardDevice fault.device)
   pub prefix : IfErr result (λ fault. LeavesPrefix plan old new fault.device fault.done ⊎ LocksFailed plan old new fault.device fault.done)

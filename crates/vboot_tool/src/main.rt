@@ -1,6 +1,10 @@
 //! The boot decision as a program: it works on the images of a machine in the current folder.
 #![tactic(auto)]
 
+ghost use Rattle.std.specs.Prelude.{◌≡◌, map, string_bytes};
+ghost use Rattle.vboot_tool.specs.declared.answer.Answer.TheVariants.{Usage};
+ghost use Rattle.vboot_tool.specs.Run.{IsCommand, Prints};
+
 mod answer;
 mod boot;
 mod opening;
@@ -32,6 +36,21 @@ fn words_of<R: Env + AllocGlobal>(rt: &R) -> io::Result<Vec<String>> {
     Ok(words)
 }
 
+// Runs the command of these words over the files of the current folder.
+fn run_here<R: Files + AllocGlobal, O: Sink>(rt: &R, words: &[String], out: &mut O) -> Status
+    ensures usage { (IsCommand (map string_bytes words.now) → ⊥) → Prints Usage (O.state out.old) (O.state out.new) result }
+    ensures only_usage { result.code ≡ 1 → IsCommand (map string_bytes words.now) → ⊥ }
+{
+    let Some(_) = recovery_switch(words) else {
+        // Before any image is made.
+        return print(out, &Answer::Usage);
+    };
+    match open_board(rt) {
+        Ok(mut board) => run(words, &mut board, out),
+        Err(fault) => end_unopened(out, fault),
+    }
+}
+
 fn start<R: Env + Files + AllocGlobal, O: Sink>(rt: &R, out: &mut O) -> Status {
     let words = match words_of(rt) {
         Ok(words) => words,
@@ -40,14 +59,7 @@ fn start<R: Env + Files + AllocGlobal, O: Sink>(rt: &R, out: &mut O) -> Status {
         }
         Err(_) => return print(out, &Answer::Usage),
     };
-    if recovery_switch(&words).is_none() {
-        // Before any image is made.
-        return print(out, &Answer::Usage);
-    }
-    match open_board(rt) {
-        Ok(mut board) => run(&words, &mut board, out),
-        Err(fault) => end_unopened(out, fault),
-    }
+    run_here(rt, &words, out)
 }
 
 fn main(rt: HostRuntime) -> ExitCode {

@@ -1,5 +1,5 @@
 // The top call: a command by its words, and its answer in print.
-ghost use Rattle.std.specs.Prelude.{◌≡◌, ◌↔◌, IsTrue, IfSome, IfNone, map, string_bytes, false, true};
+ghost use Rattle.std.specs.Prelude.{◌≡◌, ◌↔◌, IsTrue, IsSome, IfSome, IfNone, map, string_bytes, false, true};
 ghost use Rattle.board_core.specs.Streams.{StreamState};
 ghost use Rattle.board_core.specs.World.{world};
 ghost use Rattle.vboot_tool.specs.Run.{boot_words, IsCommand, Works, Prints, Runs, Ends};
@@ -40,6 +40,7 @@ fn work<F: Flash, T: Tpm, D: Disk, E: Disk, H: Hook>(
 /// The recovery switch of these words, where they are a command.
 pub fn recovery_switch(words: &[String]) -> Option<bool>
     ensures switch { IfSome result (λ switch. map string_bytes words.now ≡ boot_words switch) }
+    ensures some { IsSome result → IsCommand (map string_bytes words.now) }
     ensures none { IfNone result (IsCommand (map string_bytes words.now) → ⊥) }
 {
     if is_boot(words) {

@@ -186,6 +186,7 @@ pub fn save<F: Flash>(flash: &mut F, state: &NvState, nv: &Nv) -> Result<(), Fai
     ensures told { (F.state flash.new).medium.told ≡ (F.state flash.old).medium.told }
     ensures broke { OnErr result (Rose (F.state flash.old).counters.failed_changes (F.state flash.new).counters.failed_changes) }
     ensures saved { IsTrue (F.state flash.old).medium.told → OnOk result ((F.state flash.new).medium.bytes ≡ appended (F.state flash.old).medium.bytes nv.now) }
+    ensures torn { IsTrue (F.state flash.old).medium.told → OnOk result ((F.state flash.new).medium.torn ≡ (F.state flash.old).medium.torn) }
     ensures kept { IsTrue (F.state flash.old).medium.told → KeepsWritten (F.state flash.old).medium.bytes (F.state flash.new).medium.bytes }
 {
     let bytes = nv.bytes();
@@ -205,6 +206,7 @@ fn append<F: Flash>(flash: &mut F, cell: u16, bytes: &[u8; 16]) -> Result<(), Fa
     ensures told { (F.state flash.new).medium.told ≡ (F.state flash.old).medium.told }
     ensures broke { OnErr result (Rose (F.state flash.old).counters.failed_changes (F.state flash.new).counters.failed_changes) }
     ensures saved { IsTrue (F.state flash.old).medium.told → OnOk result ((F.state flash.new).medium.bytes ≡ spliced (F.state flash.old).medium.bytes (16 + 16 * cell) bytes.now) }
+    ensures torn { IsTrue (F.state flash.old).medium.told → OnOk result ((F.state flash.new).medium.torn ≡ (F.state flash.old).medium.torn) }
     ensures kept { IsTrue (F.state flash.old).medium.told → take (16 + 16 * cell) (F.state flash.new).medium.bytes ≡ take (16 + 16 * cell) (F.state flash.old).medium.bytes }
 {
     flash.program((HEAD_SIZE + CELL_SIZE * cell as usize) as u32, bytes)
@@ -218,6 +220,7 @@ fn start_page<F: Flash>(flash: &mut F, bytes: &[u8; 16]) -> Result<(), Failed>
     ensures told { (F.state flash.new).medium.told ≡ (F.state flash.old).medium.told }
     ensures broke { OnErr result (Rose (F.state flash.old).counters.failed_changes (F.state flash.new).counters.failed_changes) }
     ensures saved { IsTrue (F.state flash.old).medium.told → OnOk result ((F.state flash.new).medium.bytes ≡ fresh_page bytes.now) }
+    ensures torn { IsTrue (F.state flash.old).medium.told → OnOk result ((F.state flash.new).medium.torn ≡ (F.state flash.old).medium.torn) }
 {
     flash.erase(0)?;
     flash.program(HEAD_SIZE as u32, bytes)?;

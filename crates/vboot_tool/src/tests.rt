@@ -206,6 +206,41 @@ fn each_row_and_each_failing_call(rt: HostRuntime) -> Result<(), Fail> {
     check_rows(&rt, &ROWS)
 }
 
+// A boot of this row with a failing call of each device, of which one is reached.
+fn check_order(
+    rt: &(impl AllocGlobal + Abort),
+    row: &Row,
+    [flash_call, tpm_call]: [u32; 2],
+    text: &str,
+) -> Result<(), Fail> {
+    let words = words_of(rt.alloc(), &["boot"])?;
+    let remains = Remains::Old;
+    let flash_fail = FailAt {
+        call: flash_call,
+        remains,
+    };
+    let tpm_fail = FailAt {
+        call: tpm_call,
+        remains,
+    };
+    let mut board = row_board(rt.alloc(), row, flash_fail, tpm_fail)?;
+    let mut out = MemSink::new(rt.alloc(), 64, &[])?;
+    let _ = run(&words, &mut board, &mut out);
+    assert_eq!(rt; out.bytes(), text.as_bytes());
+    Ok(())
+}
+
+// The TPM is started, then the page is read, then both spaces; the record is stored before the locks.
+#[test]
+fn the_order_of_the_calls(rt: HostRuntime) -> Result<(), Fail> {
+    let [row, ..] = &ROWS;
+    check_order(&rt, row, [1, 1], "fault tpm done 0\n")?;
+    check_order(&rt, row, [1, 2], "fault flash done 0\n")?;
+    check_order(&rt, row, [2, 3], "fault tpm done 0\n")?;
+    check_order(&rt, row, [2, 4], "fault flash done 0\n")?;
+    check_order(&rt, row, [3, 4], "fault tpm done 1\n")
+}
+
 // A command over a flash of so many erased bytes, where the sink has so much room.
 struct Command {
     words: &'static [&'static str],

@@ -38,6 +38,9 @@ pub enum Record {
     Request,
     // Two tries are left, and developer mode is to be switched off.
     Disable,
+    // Slot B is to be tried next, and the boot of it that follows.
+    NextB,
+    TriedB,
 }
 
 impl Record {
@@ -49,6 +52,8 @@ impl Record {
             Record::BackToA => [0x40, 0, 0, 0, 0, 0, 0, 0x50, 0, 0, 0, 0, 0, 0, 0, 0x68],
             Record::Blank => [0x70, 0, 0, 0, 0, 0, 0, 0, 0, 0, 0, 0, 0, 0, 0, 0x20],
             Record::Request => [0x40, 2, 5, 0, 0, 0, 6, 2, 0, 0, 0, 0, 0, 0, 0, 0xb3],
+            Record::NextB => [0x40, 0, 0, 0, 0, 0, 0, 0x0a, 0, 0, 0, 0, 0, 0, 0, 0x3d],
+            Record::TriedB => [0x40, 0, 0, 0, 0, 0, 0, 0x2c, 0, 0, 0, 0, 0, 0, 0, 0x39],
             Record::Disable => [0x40, 0x42, 0, 0, 0, 0, 0, 2, 0, 0, 0, 0, 0, 0, 0, 0x87],
         }
     }
@@ -112,6 +117,7 @@ impl Kernel {
 #[derive(Clone, Copy)]
 pub enum Printed {
     Normal,
+    NormalB,
     Developer,
     // A screen with reason 5, and subcode 6.
     Request,
@@ -126,6 +132,7 @@ impl Printed {
     pub fn text(self) -> &'static str {
         match self {
             Printed::Normal => "mode normal\nslot A\n",
+            Printed::NormalB => "mode normal\nslot B\n",
             Printed::Developer => "mode developer\nslot A\n",
             Printed::Request => "screen reason 5 subcode 6\n",
             Printed::Firmware(1) => "screen reason 11 subcode 1\n",
@@ -141,7 +148,7 @@ impl Printed {
 
     pub fn code(self) -> u8 {
         match self {
-            Printed::Normal | Printed::Developer => 0,
+            Printed::Normal | Printed::NormalB | Printed::Developer => 0,
             Printed::Request | Printed::Firmware(_) | Printed::Kernel(_) => 3,
             Printed::Full => 18,
         }
@@ -233,9 +240,15 @@ const NO_BOOT: Row = Row {
     ..NOTHING_STORED
 };
 
-pub const ROWS: [Row; 24] = [
+pub const ROWS: [Row; 25] = [
     // A record, both changes, and the firmware space alone.
     ONE_TRY_LESS,
+    Row {
+        cell: Record::NextB,
+        printed: Printed::NormalB,
+        stores: Some(Record::TriedB),
+        ..ONE_TRY_LESS
+    },
     Row {
         cell: Record::RunOut,
         stores: Some(Record::BackToA),

@@ -1,5 +1,6 @@
 -- Each end of the run: what was left, from what each call did.
 use Rattle.std.proofs.Common.{◌≡◌, ℕ, ◌+◌, ◌*◌, ◌%◌, ◌≤◌, List, [], ◌++◌, length, IsTrue, true, inl, inr, refl, sym, ap, ◌∙◌, subst, arith, append-nil}
+use Rattle.std.proofs.lemmas.Bool.{false≢true}
 use Rattle.std.proofs.lemmas.List.Elements.{All-nil, All-append}
 use Rattle.std.specs.Prelude.{All}
 use Rattle.board_core.specs.declared.torn.Torn.{Torn}
@@ -19,6 +20,7 @@ made_within : (a b : Counters) (k n : ℕ) → k ≤ n → MadeChanges a b k tru
 made_within a b k n within made = record {
   later = made.later;
   cause = made.cause;
+  no_fault = λ t. absurd (false≢true (sym t));
   more_failed = made.more_failed;
   none_failed = made.none_failed;
   stop = moved_weaker a.stop b.stop k n true within made.stop;

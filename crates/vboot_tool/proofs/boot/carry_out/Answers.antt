@@ -6,11 +6,10 @@ use Rattle.vboot_tool.proofs.boot.carry_out.Goals as goal
 pub returns-in-NotBuiltRecovery : goal.returns-in-NotBuiltRecovery
 returns-in-NotBuiltRecovery g c = record {
   flash_calls = 0;
-  flash_few = omega arith;
   flash = made_none _;
   tpm_calls = 0;
-  tpm_few = omega arith;
   tpm = made_none _;
+  calls = record { flash_few = omega arith; tpm_few = omega arith; flash_all = λ whole. absurd whole; tpm_all = λ whole. absurd whole };
   flash_size = refl;
   flash_told = refl;
   tpm_told = refl;

@@ -24,6 +24,7 @@ returns-in_default g c =
       calls = tt;
       spaces = λ told. tt;
       page = λ told. tt;
+      torn = λ told. tt;
       device = tt;
       prefix = (refl, failed.some, failed.broke, refl, failed.err);
     }

@@ -1,5 +1,6 @@
 -- A failed read notes each pending sector with the bytes that stand there.
 use Rattle.std.proofs.Common.{[], refl, arith, sym, ap, length, append-nil, map}
+use Rattle.board_core.proofs.Stops.{plain_observed}
 use Rattle.board_core.proofs.DiskTorn.{left_disk_torn_alone}
 use Rattle.board_mem.specs.Remains.{record_standing}
 use Rattle.board_mem.proofs.DiskLeaves.{overlaid-standing, records_of-standing}
@@ -12,13 +13,7 @@ returns-then-is_some-clause-meets c =
     let sectors = c.args.self.now.in_sectors in
     let torn = rw (c.deref.ensures.value, c.deref-then-is_some.ensures.value) at c.note_sectors.ensures.torn in
     record {
-      counters = record {
-        later = c.raise-self.ensures.no_less;
-        cause = λ failed. omega (arith, c.raise-self.ensures.raised);
-        failed_changes = refl;
-        stop = refl;
-        settings = refl;
-      };
+      counters = plain_observed _ _ _ c.raise-self.ensures.no_less c.raise-self.ensures.raised;
       sectors = refl;
       told = refl;
       ok = tt;

@@ -22,7 +22,7 @@ use Rattle.vboot_tool.specs.declared.plan.Outcome.TheVariants as outcome
 use Rattle.vboot_tool.specs.Plan.{plan_in, plan_of, facts_of, found_in, found_record, boot_plan}
 use Rattle.vboot_tool.specs.Steps.{IsBoardDevice, both_locked}
 use Rattle.vboot_tool.specs.Boot.{IsFull, IsUnchanged, Boots}
-use Rattle.vboot_tool.specs.Run.{boot_words, IsCommand, BootsBy, Works, Prints, Runs, GoesOn, EndsAtScreen, FindsFull, IsToldBoot, outcome_code, OneFailed, Ends}
+use Rattle.vboot_tool.specs.Run.{boot_words, IsCommand, BootsBy, RefusesWords, Works, Prints, Runs, GoesOn, EndsAtScreen, FindsFull, IsToldBoot, outcome_code, OneFailed, Ends}
 
 -- the status is that of the answer, and all of its text was put
 pub record Shown (given : Answer) (put put' : StreamState) (status : Status) : Type 0 where
@@ -117,7 +117,7 @@ screen_at words old new put put' status answers.NvFull by shown code told told' 
 screen_at words old new put put' status (answers.Fault fault) by shown code told told' = absurd (omega (arith, shown.code, code-high fault.device))
 
 usage_at : (words : List (List ℕ)) (old new : World) (put put' : StreamState) (status : Status) (given : Answer) → Works words old new given → Shown given put put' status → status.code ≡ 1
-    → (IsCommand words → ⊥) × (new ≡ old)
+    → RefusesWords words old new
 usage_at words old new put put' status answers.Usage by shown code = by
 usage_at words old new put put' status (answers.Selected developer slot) by shown code = absurd (omega (arith, shown.code))
 usage_at words old new put put' status (answers.Screen reason subcode) by shown code = absurd (omega (arith, shown.code))
@@ -171,8 +171,8 @@ same_counts : (old new : World) → new ≡ old → BoardNoneFailed old new
 same_counts old new same = record { flash = ap (λ (w : World). w.flash.counters.faults) same; tpm = ap (λ (w : World). w.tpm.counters.faults) same }
 
 none_failed_of : (words : List (List ℕ)) (old new : World) (given : Answer) → Works words old new given → (code_of given ≡ 5 → ⊥) → (code_of given ≡ 6 → ⊥) → BoardNoneFailed old new
-none_failed_of words old new answers.Usage by not_flash not_tpm = same_counts old new by.1
-none_failed_of words old new (answers.NotBuilt form.Flash) by not_flash not_tpm = same_counts old new by.2
+none_failed_of words old new answers.Usage by not_flash not_tpm = same_counts old new by.same
+none_failed_of words old new (answers.NotBuilt form.Flash) by not_flash not_tpm = same_counts old new by.same
 none_failed_of words old new (answers.Selected developer slot) by not_flash not_tpm = record { flash = by.boots.flash.no_fault refl; tpm = by.boots.tpm.no_fault refl }
 none_failed_of words old new (answers.Screen reason subcode) by not_flash not_tpm = record { flash = by.boots.flash.no_fault refl; tpm = by.boots.tpm.no_fault refl }
 none_failed_of words old new (answers.NotBuilt form.Recovery) by not_flash not_tpm = record { flash = by.boots.flash.no_fault refl; tpm = by.boots.tpm.no_fault refl }
@@ -207,7 +207,7 @@ same_world : (old new : World) → new ≡ old → IsUnchanged old new
 same_world old new same = record { flash = ap (λ (w : World). w.flash.medium) same; spaces = ap (λ (w : World). w.tpm.spaces) same }
 
 not_built_at : (words : List (List ℕ)) (old new : World) (put put' : StreamState) (status : Status) (given : Answer) → Works words old new given → Shown given put put' status → status.code ≡ 19 → IsUnchanged old new
-not_built_at words old new put put' status (answers.NotBuilt form.Flash) by shown code = same_world old new by.2
+not_built_at words old new put put' status (answers.NotBuilt form.Flash) by shown code = same_world old new by.same
 not_built_at words old new put put' status (answers.NotBuilt form.Recovery) by shown code = by.boots.unchanged
 not_built_at words old new put put' status answers.NvFull by shown code = absurd (omega (arith, shown.code))
 not_built_at words old new put put' status (answers.Fault fault) by shown code = absurd (omega (arith, shown.code, code-low fault.device))
@@ -230,13 +230,13 @@ usage_of : (words : List (List ℕ)) (old new : World) (given : Answer) → Work
 usage_of words old new answers.Usage by none = refl
 usage_of words old new (answers.Selected developer slot) by none = absurd (none (by.switch, by.by_words))
 usage_of words old new (answers.Screen reason subcode) by none = absurd (none (by.switch, by.by_words))
-usage_of words old new (answers.NotBuilt form.Flash) by none = absurd (none by.0)
+usage_of words old new (answers.NotBuilt form.Flash) by none = absurd (none by.command)
 usage_of words old new (answers.NotBuilt form.Recovery) by none = absurd (none (by.switch, by.by_words))
 usage_of words old new answers.NvFull by none = absurd (none (by.switch, by.by_words))
 usage_of words old new (answers.Fault fault) by none = absurd (none (by.switch, by.by_words))
 
 other_size_of : (words : List (List ℕ)) (old new : World) (given : Answer) → Works words old new given → IsCommand words → (old.flash.medium.size ≡ 4096 → ⊥) → code_of given ≡ 19
-other_size_of words old new answers.Usage by is other = absurd (by.0 is)
+other_size_of words old new answers.Usage by is other = absurd (by.no_command is)
 other_size_of words old new (answers.Selected developer slot) by is other = absurd (other by.size)
 other_size_of words old new (answers.Screen reason subcode) by is other = absurd (other by.size)
 other_size_of words old new (answers.NotBuilt form.Flash) by is other = refl
@@ -277,12 +277,12 @@ switch_is_by_hand page spaces = refl
 
 full_of : (words : List (List ℕ)) (old new : World) (given : Answer) (switch : Bool) → Works words old new given → IsToldBoot switch words old
     → IsFull (boot_plan switch old.flash.medium.bytes old.tpm.spaces) old.flash.medium.bytes → (code_of given ≡ 5 → ⊥) → (code_of given ≡ 6 → ⊥) → code_of given ≡ 18
-full_of words old new answers.Usage switch by told full not_flash not_tpm = absurd (by.0 (switch, told.by_words))
+full_of words old new answers.Usage switch by told full not_flash not_tpm = absurd (by.no_command (switch, told.by_words))
 full_of words old new (answers.Selected developer slot) switch by told full not_flash not_tpm =
     absurd (((boots_at words old new (answers.Selected developer slot) switch by told).stands told.flash_told told.tpm_told tt).not_full full)
 full_of words old new (answers.Screen reason subcode) switch by told full not_flash not_tpm =
     absurd (((boots_at words old new (answers.Screen reason subcode) switch by told).stands told.flash_told told.tpm_told tt).not_full full)
-full_of words old new (answers.NotBuilt form.Flash) switch by told full not_flash not_tpm = absurd (by.1 told.size)
+full_of words old new (answers.NotBuilt form.Flash) switch by told full not_flash not_tpm = absurd (by.other_size told.size)
 full_of words old new (answers.NotBuilt form.Recovery) switch by told full not_flash not_tpm =
     absurd (not_full_by_hand switch old.flash.medium.bytes old.tpm.spaces ((boots_at words old new (answers.NotBuilt form.Recovery) switch by told).outcome told.flash_told told.tpm_told) full)
 full_of words old new answers.NvFull switch by told full not_flash not_tpm = refl
@@ -291,12 +291,12 @@ full_of words old new (answers.Fault fault) switch by told full not_flash not_tp
 room_of : (words : List (List ℕ)) (old new : World) (given : Answer) (switch : Bool) → Works words old new given → IsToldBoot switch words old
     → (IsFull (boot_plan switch old.flash.medium.bytes old.tpm.spaces) old.flash.medium.bytes → ⊥) → (code_of given ≡ 5 → ⊥) → (code_of given ≡ 6 → ⊥)
     → code_of given ≡ outcome_code (boot_plan switch old.flash.medium.bytes old.tpm.spaces).outcome
-room_of words old new answers.Usage switch by told room not_flash not_tpm = absurd (by.0 (switch, told.by_words))
+room_of words old new answers.Usage switch by told room not_flash not_tpm = absurd (by.no_command (switch, told.by_words))
 room_of words old new (answers.Selected developer slot) switch by told room not_flash not_tpm =
     sym (ap outcome_code ((boots_at words old new (answers.Selected developer slot) switch by told).outcome told.flash_told told.tpm_told).0)
 room_of words old new (answers.Screen reason subcode) switch by told room not_flash not_tpm =
     sym (ap outcome_code ((boots_at words old new (answers.Screen reason subcode) switch by told).outcome told.flash_told told.tpm_told).0)
-room_of words old new (answers.NotBuilt form.Flash) switch by told room not_flash not_tpm = absurd (by.1 told.size)
+room_of words old new (answers.NotBuilt form.Flash) switch by told room not_flash not_tpm = absurd (by.other_size told.size)
 room_of words old new (answers.NotBuilt form.Recovery) switch by told room not_flash not_tpm =
     sym (ap outcome_code ((boots_at words old new (answers.NotBuilt form.Recovery) switch by told).outcome told.flash_told told.tpm_told))
 room_of words old new answers.NvFull switch by told room not_flash not_tpm = absurd (room ((boots_at words old new answers.NvFull switch by told).outcome told.flash_told told.tpm_told))
@@ -311,10 +311,10 @@ recovery_of words old new given by told not_flash not_tpm =
 
 full_stays_of : (words : List (List ℕ)) (old new : World) (given : Answer) (switch : Bool) → Works words old new given → IsToldBoot switch words old
     → IsFull (boot_plan switch old.flash.medium.bytes old.tpm.spaces) old.flash.medium.bytes → IsUnchanged old new
-full_stays_of words old new answers.Usage switch by told full = absurd (by.0 (switch, told.by_words))
+full_stays_of words old new answers.Usage switch by told full = absurd (by.no_command (switch, told.by_words))
 full_stays_of words old new (answers.Selected developer slot) switch by told full = (boots_at words old new (answers.Selected developer slot) switch by told).full_stays told.flash_told told.tpm_told full
 full_stays_of words old new (answers.Screen reason subcode) switch by told full = (boots_at words old new (answers.Screen reason subcode) switch by told).full_stays told.flash_told told.tpm_told full
-full_stays_of words old new (answers.NotBuilt form.Flash) switch by told full = absurd (by.1 told.size)
+full_stays_of words old new (answers.NotBuilt form.Flash) switch by told full = absurd (by.other_size told.size)
 full_stays_of words old new (answers.NotBuilt form.Recovery) switch by told full = (boots_at words old new (answers.NotBuilt form.Recovery) switch by told).full_stays told.flash_told told.tpm_told full
 full_stays_of words old new answers.NvFull switch by told full = (boots_at words old new answers.NvFull switch by told).full_stays told.flash_told told.tpm_told full
 full_stays_of words old new (answers.Fault fault) switch by told full = (boots_at words old new (answers.Fault fault) switch by told).full_stays told.flash_told told.tpm_told full
@@ -322,30 +322,30 @@ full_stays_of words old new (answers.Fault fault) switch by told full = (boots_a
 -- ---- the spaces at every answer
 
 kernel_of : (words : List (List ℕ)) (old new : World) (given : Answer) → Works words old new given → IsTrue old.tpm.told → new.tpm.spaces.kernel ≡ old.tpm.spaces.kernel
-kernel_of words old new answers.Usage by told = ap (λ (w : World). w.tpm.spaces.kernel) by.1
+kernel_of words old new answers.Usage by told = ap (λ (w : World). w.tpm.spaces.kernel) by.same
 kernel_of words old new (answers.Selected developer slot) by told = by.boots.kernel told
 kernel_of words old new (answers.Screen reason subcode) by told = by.boots.kernel told
-kernel_of words old new (answers.NotBuilt form.Flash) by told = ap (λ (w : World). w.tpm.spaces.kernel) by.2
+kernel_of words old new (answers.NotBuilt form.Flash) by told = ap (λ (w : World). w.tpm.spaces.kernel) by.same
 kernel_of words old new (answers.NotBuilt form.Recovery) by told = by.boots.kernel told
 kernel_of words old new answers.NvFull by told = by.boots.kernel told
 kernel_of words old new (answers.Fault fault) by told = by.boots.kernel told
 
 version_of : (words : List (List ℕ)) (old new : World) (given : Answer) → Works words old new given → IsTrue old.tpm.told
     → stored_firmware_version new.tpm.spaces.firmware ≡ stored_firmware_version old.tpm.spaces.firmware
-version_of words old new answers.Usage by told = ap (λ (w : World). stored_firmware_version w.tpm.spaces.firmware) by.1
+version_of words old new answers.Usage by told = ap (λ (w : World). stored_firmware_version w.tpm.spaces.firmware) by.same
 version_of words old new (answers.Selected developer slot) by told = by.boots.version told
 version_of words old new (answers.Screen reason subcode) by told = by.boots.version told
-version_of words old new (answers.NotBuilt form.Flash) by told = ap (λ (w : World). stored_firmware_version w.tpm.spaces.firmware) by.2
+version_of words old new (answers.NotBuilt form.Flash) by told = ap (λ (w : World). stored_firmware_version w.tpm.spaces.firmware) by.same
 version_of words old new (answers.NotBuilt form.Recovery) by told = by.boots.version told
 version_of words old new answers.NvFull by told = by.boots.version told
 version_of words old new (answers.Fault fault) by told = by.boots.version told
 
 faulty_of : (words : List (List ℕ)) (old new : World) (given : Answer) → Works words old new given → IsTrue old.tpm.told → IsSome (firmware_fault old.tpm.spaces.firmware)
     → new.tpm.spaces.firmware ≡ old.tpm.spaces.firmware
-faulty_of words old new answers.Usage by told some = ap (λ (w : World). w.tpm.spaces.firmware) by.1
+faulty_of words old new answers.Usage by told some = ap (λ (w : World). w.tpm.spaces.firmware) by.same
 faulty_of words old new (answers.Selected developer slot) by told some = by.boots.faulty told some
 faulty_of words old new (answers.Screen reason subcode) by told some = by.boots.faulty told some
-faulty_of words old new (answers.NotBuilt form.Flash) by told some = ap (λ (w : World). w.tpm.spaces.firmware) by.2
+faulty_of words old new (answers.NotBuilt form.Flash) by told some = ap (λ (w : World). w.tpm.spaces.firmware) by.same
 faulty_of words old new (answers.NotBuilt form.Recovery) by told some = by.boots.faulty told some
 faulty_of words old new answers.NvFull by told some = by.boots.faulty told some
 faulty_of words old new (answers.Fault fault) by told some = by.boots.faulty told some

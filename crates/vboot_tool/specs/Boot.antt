@@ -125,11 +125,13 @@ pub record CallsOfPlan (plan : Plan) (generation : Option ℕ) (flash_calls tpm_
 
 -- What carrying out a plan does to a board whose spaces are unlocked, by its answer.
 pub record CarriesOut (plan : Plan) (generation : Option ℕ) (old new : World) (answer : Answer) : Type 0 where
+  -- how many changing calls were made on each device; the one device that failed counted it, and the other counted nothing
   pub flash_calls : ℕ
   pub flash : MadeChanges old.flash.counters new.flash.counters flash_calls (is_answer_of device.Flash answer)
   pub tpm_calls : ℕ
   pub tpm : MadeChanges old.tpm.counters new.tpm.counters tpm_calls (is_answer_of device.Tpm answer)
   pub calls : CallsOfPlan plan generation flash_calls tpm_calls answer
+  -- no other device changes, and none changes its size or what it tells
   pub flash_size : new.flash.medium.size ≡ old.flash.medium.size
   pub flash_told : new.flash.medium.told ≡ old.flash.medium.told
   pub tpm_told : new.tpm.told ≡ old.tpm.told
@@ -140,6 +142,7 @@ pub record CarriesOut (plan : Plan) (generation : Option ℕ) (old new : World) 
   pub locks : LocksAfter answer new.tpm.locks
   pub fault : FaultOf answer
   pub unchanged : ChangesNothing answer old new
+  -- what was written in the page stays, and the spaces are the old ones or the new ones, at a fault too
   pub kept : IsTrue old.flash.medium.told → KeepsWritten old.flash.medium.bytes new.flash.medium.bytes
   pub spaces : IsTrue old.tpm.told → (new.tpm.spaces ≡ old.tpm.spaces) ⊎ (new.tpm.spaces ≡ spaces_with plan.firmware old.tpm.spaces)
   -- it does not find the page full

@@ -34,10 +34,21 @@ pub record BootsBy (words : List (List ℕ)) (old new : World) (answer : Answer)
   pub size : old.flash.medium.size ≡ 4096
   pub boots : Boots switch old new answer
 
+-- The words are no command, and the board is as it was.
+pub record RefusesWords (words : List (List ℕ)) (old new : World) : Type 0 where
+  pub no_command : IsCommand words → ⊥
+  pub same : new ≡ old
+
+-- They are one, the flash has another size than a page, and the board is as it was.
+pub record RefusesFlash (words : List (List ℕ)) (old new : World) : Type 0 where
+  pub command : IsCommand words
+  pub other_size : old.flash.medium.size ≡ 4096 → ⊥
+  pub same : new ≡ old
+
 -- What holds of the board at each answer. Each refusal has its cause, and no other answer has it.
 abbrev pub Works : List (List ℕ) → World → World → Answer → Type 0
-Works words old new answers.Usage = (IsCommand words → ⊥) × (new ≡ old)
-Works words old new (answers.NotBuilt form.Flash) = IsCommand words × (old.flash.medium.size ≡ 4096 → ⊥) × (new ≡ old)
+Works words old new answers.Usage = RefusesWords words old new
+Works words old new (answers.NotBuilt form.Flash) = RefusesFlash words old new
 Works words old new answer = BootsBy words old new answer
 
 -- How an answer is printed. Status 9 comes only where the sink counted a fault, and then a front of the text was put.
@@ -129,9 +140,9 @@ pub record NoneFailed (old new : World) (put put' : StreamState) : Type 0 where
 pub record Ends (words : List (List ℕ)) (old new : World) (put put' : StreamState) (status : Status) : Type 0 where
   pub selected : status.code ≡ 0 → IsTrue old.flash.medium.told → IsTrue old.tpm.told → GoesOn words old new put put'
   -- the words are no command
-  pub usage : status.code ≡ 1 → (IsCommand words → ⊥) × (new ≡ old)
+  pub usage : status.code ≡ 1 → RefusesWords words old new
   pub screen : status.code ≡ 3 → IsTrue old.flash.medium.told → IsTrue old.tpm.told → EndsAtScreen words old new put put'
-  -- a fault is answered only where that very device failed, and the first call that fails ends the run
+  -- a fault is answered only where that very device failed, and the first call that fails ends the boot
   pub flash_fault : status.code ≡ 5 → OneFailed old.flash.counters new.flash.counters old.tpm.counters new.tpm.counters
   pub tpm_fault : status.code ≡ 6 → OneFailed old.tpm.counters new.tpm.counters old.flash.counters new.flash.counters
   pub sink_fault : status.code ≡ 9 → put'.faults ≡ raised put.faults

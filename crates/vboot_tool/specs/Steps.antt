@@ -29,8 +29,10 @@ IsBoardDevice other = ⊥
 
 -- What a board is started and read. It changes nothing that lasts, and unlocks both spaces.
 pub record ReadsBoard (old new : World) (result : Result Found Fault) : Type 0 where
+  -- the device that failed counted it, and the other counted nothing
   pub flash : Observed old.flash.counters new.flash.counters (is_fault_of device.Flash result)
   pub tpm : Observed old.tpm.counters new.tpm.counters (is_fault_of device.Tpm result)
+  -- all that lasts stays
   pub medium : new.flash.medium ≡ old.flash.medium
   pub spaces : new.tpm.spaces ≡ old.tpm.spaces
   pub tpm_told : new.tpm.told ≡ old.tpm.told
@@ -39,9 +41,10 @@ pub record ReadsBoard (old new : World) (result : Result Found Fault) : Type 0 w
   pub hook : new.hook ≡ old.hook
   pub map_at : new.map_at ≡ old.map_at
   pub unlocked : OnOk result (new.tpm.locks ≡ unlocked)
+  -- a fault is one of the flash or the TPM, before any change
   pub device : IfErr result (λ fault. IsBoardDevice fault.device)
   pub none_done : IfErr result (λ fault. fault.done ≡ 0)
-  -- what is found is what the page and the spaces hold
+  -- what is found is what the page and the spaces hold, as far as they tell it
   pub found : IsTrue old.flash.medium.told → IsTrue old.tpm.told → IfOk result (λ found. found ≡ found_in old.flash.medium.bytes old.tpm.spaces)
   pub state : IsTrue old.flash.medium.told → IfOk result (λ found. IsStateOf old.flash.medium.bytes found.state)
   pub firmware : IsTrue old.tpm.told → IfOk result (λ found. found.firmware ≡ good_bytes (firmware_fault old.tpm.spaces.firmware) old.tpm.spaces.firmware)
@@ -91,19 +94,33 @@ pub record StoresRecord {E : Type 0} (change : Option (List ℕ)) (generation : 
   pub some : OnErr result (IsSome change)
   pub broke : OnErr result (Rose old.counters.failed_changes new.counters.failed_changes)
 
+-- The write of the firmware space failed, which is the first change. The space is the old one or the new one.
+pub record FirmwareFailed (plan : Plan) (old new : World) (done : ℕ) : Type 0 where
+  pub first : done ≡ 0
+  pub some : IsSome plan.firmware
+  -- it failed in a changing call
+  pub broke : Rose old.tpm.counters.failed_changes new.tpm.counters.failed_changes
+  pub flash : new.flash.medium ≡ old.flash.medium
+  pub spaces : IsTrue old.tpm.told → (new.tpm.spaces ≡ old.tpm.spaces) ⊎ (new.tpm.spaces ≡ spaces_with plan.firmware old.tpm.spaces)
+
+-- The storing of the record failed, which is the last change. The space is written, where it changes.
+pub record RecordFailed (plan : Plan) (old new : World) (done : ℕ) : Type 0 where
+  pub last : done ≡ change_count plan.firmware
+  pub some : IsSome plan.nv
+  -- it failed in a changing call
+  pub broke : Rose old.flash.counters.failed_changes new.flash.counters.failed_changes
+  pub spaces : IsTrue old.tpm.told → new.tpm.spaces ≡ spaces_with plan.firmware old.tpm.spaces
+
 -- What a fault leaves in the changes of a plan: those that are done are whole, and the next one has not happened, or it is a
 -- change of that very device, which failed in a changing call.
 abbrev pub LeavesPrefix : Plan → World → World → Device → ℕ → Type 0
-LeavesPrefix plan old new device.Tpm done =
-    (done ≡ 0) × IsSome plan.firmware × Rose old.tpm.counters.failed_changes new.tpm.counters.failed_changes × (new.flash.medium ≡ old.flash.medium)
-    × (IsTrue old.tpm.told → (new.tpm.spaces ≡ old.tpm.spaces) ⊎ (new.tpm.spaces ≡ spaces_with plan.firmware old.tpm.spaces))
-LeavesPrefix plan old new device.Flash done =
-    (done ≡ change_count plan.firmware) × IsSome plan.nv × Rose old.flash.counters.failed_changes new.flash.counters.failed_changes
-    × (IsTrue old.tpm.told → new.tpm.spaces ≡ spaces_with plan.firmware old.tpm.spaces)
+LeavesPrefix plan old new device.Tpm done = FirmwareFailed plan old new done
+LeavesPrefix plan old new device.Flash done = RecordFailed plan old new done
 LeavesPrefix plan old new other done = ⊥
 
 -- The changes of a plan, in their order.
 pub record MakesChanges (plan : Plan) (generation : Option ℕ) (old new : World) (result : Result ℕ Fault) : Type 0 where
+  -- how many changing calls the flash had, and how the counters moved
   pub flash_calls : ℕ
   pub flash_few : flash_calls ≤ record_calls plan.nv generation
   pub flash : MadeChanges old.flash.counters new.flash.counters flash_calls (is_fault_of device.Flash result)
@@ -111,12 +128,15 @@ pub record MakesChanges (plan : Plan) (generation : Option ℕ) (old new : World
   pub size : new.flash.medium.size ≡ old.flash.medium.size
   pub flash_told : new.flash.medium.told ≡ old.flash.medium.told
   pub tpm_told : new.tpm.told ≡ old.tpm.told
+  -- no lock and no other device changes
   pub locks : new.tpm.locks ≡ old.tpm.locks
   pub disk : new.disk ≡ old.disk
   pub stick : new.stick ≡ old.stick
   pub hook : new.hook ≡ old.hook
   pub map_at : new.map_at ≡ old.map_at
+  -- what was written in the page stays, at a fault too
   pub kept : IsTrue old.flash.medium.told → KeepsWritten old.flash.medium.bytes new.flash.medium.bytes
+  -- at Ok all changes are made, in as many calls as they have, and nothing is torn
   pub count : IfOk result (λ count. count ≡ change_count plan.firmware + change_count plan.nv)
   pub calls : OnOk result (flash_calls ≡ record_calls plan.nv generation)
   pub spaces : IsTrue old.tpm.told → OnOk result (new.tpm.spaces ≡ spaces_with plan.firmware old.tpm.spaces)
@@ -129,6 +149,7 @@ pub record MakesChanges (plan : Plan) (generation : Option ℕ) (old new : World
 
 -- Both spaces are locked. It changes nothing that lasts.
 pub record LocksBoth (done : ℕ) (old new : World) (result : Result Unit Fault) : Type 0 where
+  -- the flash is not called
   pub flash : new.flash ≡ old.flash
   pub tpm : Observed old.tpm.counters new.tpm.counters (is_err result)
   pub spaces : new.tpm.spaces ≡ old.tpm.spaces
@@ -138,6 +159,7 @@ pub record LocksBoth (done : ℕ) (old new : World) (result : Result Unit Fault)
   pub hook : new.hook ≡ old.hook
   pub map_at : new.map_at ≡ old.map_at
   pub locked : OnOk result (new.tpm.locks ≡ both_locked)
+  -- a fault is one of the TPM, after so many changes
   pub fault : IfErr result (λ fault. (fault.device ≡ device.Tpm) × IsBoardDevice fault.device × (fault.done ≡ done))
 
 -- ---- changing and locking
@@ -151,6 +173,7 @@ pub record LocksFailed (plan : Plan) (old new : World) (which : Device) (done : 
 
 -- The changes of a plan, and then both locks. A fault after the changes is one of the TPM, in a lock.
 pub record MakesAndLocks (plan : Plan) (generation : Option ℕ) (old new : World) (result : Result Unit Fault) : Type 0 where
+  -- how many changing calls the flash had, and how the counters moved
   pub flash_calls : ℕ
   pub flash_few : flash_calls ≤ record_calls plan.nv generation
   pub flash : MadeChanges old.flash.counters new.flash.counters flash_calls (is_fault_of device.Flash result)
@@ -162,7 +185,9 @@ pub record MakesAndLocks (plan : Plan) (generation : Option ℕ) (old new : Worl
   pub stick : new.stick ≡ old.stick
   pub hook : new.hook ≡ old.hook
   pub map_at : new.map_at ≡ old.map_at
+  -- what was written in the page stays, at a fault too
   pub kept : IsTrue old.flash.medium.told → KeepsWritten old.flash.medium.bytes new.flash.medium.bytes
+  -- at Ok all changes are made, in as many calls as they have, nothing is torn, and both spaces are locked
   pub locked : OnOk result (new.tpm.locks ≡ both_locked)
   pub spaces : IsTrue old.tpm.told → OnOk result (new.tpm.spaces ≡ spaces_with plan.firmware old.tpm.spaces)
   pub page : IsTrue old.flash.medium.told → OnOk result (new.flash.medium.bytes ≡ page_with plan.nv old.flash.medium.bytes)

@@ -144,9 +144,6 @@ pub fn make_and_lock<F: Flash, T: Tpm, D: Disk, E: Disk, H: Hook>(
     requires room { IsSome plan.now.nv → IsSome state.now.generation → state.now.next < 255 }
     ensures { MakesAndLocks plan.now state.now.generation (world F.state T.state H.state p.old) (world F.state T.state H.state p.new) result }
 {
-    let done = match make_changes(p, state, plan) {
-        Ok(done) => done,
-        Err(fault) => return Err(fault),
-    };
+    let done = make_changes(p, state, plan)?;
     lock_both(p, done)
 }

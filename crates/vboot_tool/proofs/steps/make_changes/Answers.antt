@@ -26,5 +26,5 @@ returns-in_default g c =
       page = λ told. tt;
       torn = λ told. tt;
       device = tt;
-      prefix = (refl, failed.some, failed.broke, refl, failed.err);
+      prefix = record { first = refl; some = failed.some; broke = failed.broke; flash = refl; spaces = failed.err };
     }

@@ -1,0 +1,9 @@
+pub mod Ranges
+pub mod Rows
+pub mod MapFaults
+pub mod MapLines
+pub mod Heads
+pub mod Pages
+pub mod GbbReads
+pub mod GbbTable
+pub mod Checks

@@ -1,0 +1,4 @@
+pub mod Gbb
+pub mod Map
+pub mod MapFits
+pub mod Reading

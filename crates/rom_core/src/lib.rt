@@ -1,7 +1,7 @@
 //! The read-only data of a firmware flash: the map of its areas, and the GBB with the root key and the recovery key.
 //!
 //! - `map_locating` looks for the map, and `map_reading` reads it. `map_rows` has its rows, `map` the six areas of a boot and
-//!   their checks, and `area` one area.
+//!   their checks, `area` one area, and `names` their names.
 //! - `gbb` reads the GBB, and `gbb_parts` has its head.
 //! - `layout` has all places and sizes, and `fault` what can be wrong.
 #![tactic(auto)]
@@ -19,6 +19,7 @@ mod map_reading;
 mod map_rows;
 #[cfg(test)]
 mod map_tests;
+mod names;
 #[cfg(test)]
 mod test_flash;
 
@@ -28,3 +29,4 @@ pub use gbb::{Gbb, read_gbb};
 pub use map::Map;
 pub use map_locating::locate;
 pub use map_reading::read_map;
+pub use names::before_nul;

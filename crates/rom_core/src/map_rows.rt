@@ -1,32 +1,20 @@
 // The rows of a flash map, which name its areas.
-ghost use Rattle.std.specs.Prelude.{◌≡◌, ◌/◌, ◌==◌, length, position};
-ghost use Rattle.std.specs.List.{before_first};
-ghost use Rattle.board_core.specs.Flash.{range};
+ghost use Rattle.std.specs.Prelude.{◌≡◌, ◌/◌, length};
 ghost use Rattle.rom_core.specs.Map as spec;
 ghost use Rattle.rom_core.specs.Map.{row_of, rows_in, areas_in};
 
 use crate::area::Area;
 use crate::layout::{AREA_AT, AREA_NAME, AREA_ROW, AREA_SIZE, NAME_SIZE};
 use crate::map::Map;
+use crate::names::before_nul;
 use wire_core::u32_at;
-
-// The place of the first NUL.
-fn first_nul(field: &[u8]) -> Option<usize>
-    ensures { result ≡ position (λ byte. byte == 0) field.now }
-{
-    field.iter().position(|byte| *byte == 0)
-}
 
 // The name in a row.
 fn name_of(row: &[u8]) -> &[u8]
     requires { length row.now ≡ 42 }
     ensures { result.now ≡ (row_of row.now).name }
 {
-    let field = &row[AREA_NAME as usize..(AREA_NAME + NAME_SIZE) as usize];
-    match first_nul(field) {
-        Some(end) => &field[..end],
-        None => field,
-    }
+    before_nul(&row[AREA_NAME as usize..(AREA_NAME + NAME_SIZE) as usize])
 }
 
 // The area in a row.

@@ -1,4 +1,3 @@
-pub mod Decimal
 pub mod Ranges
 pub mod Cells
 pub mod Stored

@@ -1,5 +1,5 @@
 -- A list of one word, or of two, that are given texts.
-use Rattle.std.proofs.Common.{◌≡◌, ℕ, ◌<◌, ◌≤◌, Bool, true, List, [], ◌∷◌, length, get_or, map, sym, ap, ◌∙◌, arith}
+use Rattle.std.proofs.Common.{◌≡◌, ℕ, ◌<◌, ◌≤◌, Bool, true, List, [], ◌∷◌, length, get_or, drop, map, sym, ap, ◌∙◌, arith}
 use Rattle.std.specs.Prelude.{IsTrue}
 use Rattle.std.specs.Str.{bytes_eq}
 use Rattle.std.proofs.lemmas.Slice.Eq.{bytes_eq-Decides}
@@ -35,3 +35,14 @@ two_words text_of (x ∷ y ∷ []) first second text text' same some few is_firs
       λ is_text. test' ∙ decides'.1 (ap text_of is_second ∙ ap second_of_list is_text),
     )
 two_words text_of (x ∷ y ∷ z ∷ rest) first second text text' same some few is_first is_second test test' = absurd (omega arith)
+
+-- a first word that is a given text, and the words behind it
+pub word_then : {X : Type 0} (text_of : X → List ℕ) (words others : List X) (word : X) (text : List ℕ) (texts : List (List ℕ)) (same : Bool) → 1 ≤ length words → word ≡ get_or words 0 word → others ≡ drop 1 words
+    → bytes_eq (text_of word) text ≡ true → (IsTrue same → map text_of others ≡ texts) × (map text_of others ≡ texts → IsTrue same) → (IsTrue same → map text_of words ≡ text ∷ texts) × (map text_of words ≡ text ∷ texts → IsTrue same)
+word_then text_of [] others word text texts same some is_word rest test both = absurd (omega arith)
+word_then {X = X} text_of (x ∷ xs) others word text texts same some is_word rest test both =
+    let decides = bytes_eq-Decides (text_of word) text in
+    let head : text_of x ≡ text = ap text_of (sym is_word) ∙ decides.0 test in (
+      λ yes. ap (λ (w : List ℕ). w ∷ map text_of xs) head ∙ ap (λ (ws : List (List ℕ)). text ∷ ws) (ap (map text_of) (sym rest) ∙ both.0 yes),
+      λ is_text. both.1 (ap (map text_of) rest ∙ ap (drop {A = List ℕ} 1) is_text),
+    )

@@ -6,3 +6,4 @@ pub mod Steps
 pub mod Boot
 pub mod Run
 pub mod Opening
+pub mod Showing

@@ -2,9 +2,9 @@
 ghost use Rattle.std.specs.Prelude.{◌≡◌, ◌≤◌, length};
 ghost use Rattle.vboot_tool.specs.Answer.{line_of, text_of, code_of, device_name};
 
-use crate::text::Text;
 use board_core::{Device, Fault};
 use fwsel_core::Slot;
+use text_core::Text;
 
 /// A part of a boot that is not built yet.
 #[derive(Clone, Copy, Debug, PartialEq, Eq)]
@@ -123,9 +123,9 @@ fn screen_text(reason: u8, subcode: u8) -> Text
 {
     let mut text = Text::new();
     text.push(b"screen reason ");
-    text.push_number(reason);
+    text.push_decimal(u64::from(reason));
     text.push(b" subcode ");
-    text.push_number(subcode);
+    text.push_decimal(u64::from(subcode));
     text.push(b"\n");
     text
 }
@@ -137,7 +137,7 @@ fn fault_text(fault: &Fault) -> Text
     text.push(b"fault ");
     text.push(name_of(fault.device));
     text.push(b" done ");
-    text.push_number(fault.done);
+    text.push_decimal(u64::from(fault.done));
     text.push(b"\n");
     text
 }

@@ -1,9 +1,10 @@
 //! The boot decision as a program: it works on the images of a machine in the current folder.
 #![tactic(auto)]
 
-ghost use Rattle.std.specs.Prelude.{◌≡◌, map, string_bytes};
+ghost use Rattle.std.specs.Prelude.{◌≡◌, ◌⊎◌, IsTrue, false, map, string_bytes};
 ghost use Rattle.vboot_tool.specs.declared.answer.Answer.TheVariants.{Usage};
 ghost use Rattle.vboot_tool.specs.Run.{IsCommand, Prints};
+ghost use Rattle.vboot_tool.specs.Showing.{show_words};
 
 mod answer;
 mod boot;
@@ -12,17 +13,18 @@ mod opening;
 mod opening_tests;
 mod plan;
 mod run;
+mod showing;
 mod steps;
 mod store;
 #[cfg(test)]
 mod tests;
-mod text;
 
 use answer::{Answer, Status};
 use board_core::Sink;
 use board_file::{OpenFault, StdSink};
 use opening::{end_unopened, open_board};
 use run::{print, recovery_switch, run};
+use showing::is_show;
 use std::process::ExitCode;
 use std::rt::{Env, Files};
 use std::{env, io};
@@ -36,15 +38,23 @@ fn words_of<R: Env + AllocGlobal>(rt: &R) -> io::Result<Vec<String>> {
     Ok(words)
 }
 
+// Whether the words are a command.
+fn is_command(words: &[String]) -> bool
+    ensures known { IsTrue result → IsCommand (map string_bytes words.now) ⊎ (map string_bytes words.now ≡ show_words) }
+    ensures unknown { result ≡ false → (IsCommand (map string_bytes words.now) → ⊥) × (map string_bytes words.now ≡ show_words → ⊥) }
+{
+    is_show(words) || recovery_switch(words).is_some()
+}
+
 // Runs the command of these words over the files of the current folder.
 fn run_here<R: Files + AllocGlobal, O: Sink>(rt: &R, words: &[String], out: &mut O) -> Status
-    ensures usage { (IsCommand (map string_bytes words.now) → ⊥) → Prints Usage (O.state out.old) (O.state out.new) result }
-    ensures only_usage { result.code ≡ 1 → IsCommand (map string_bytes words.now) → ⊥ }
+    ensures usage { (IsCommand (map string_bytes words.now) → ⊥) → (map string_bytes words.now ≡ show_words → ⊥) → Prints Usage (O.state out.old) (O.state out.new) result }
+    ensures only_usage { result.code ≡ 1 → (IsCommand (map string_bytes words.now) → ⊥) × (map string_bytes words.now ≡ show_words → ⊥) }
 {
-    let Some(_) = recovery_switch(words) else {
+    if !is_command(words) {
         // Before any image is made.
         return print(out, &Answer::Usage);
-    };
+    }
     match open_board(rt) {
         Ok(mut board) => run(words, &mut board, out),
         Err(fault) => end_unopened(out, fault),

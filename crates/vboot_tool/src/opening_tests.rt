@@ -104,6 +104,7 @@ fn commands_over_files(rt: HostRuntime) -> Result<(), Fail> {
     check_changes(&rt)?;
     // Missing files are no fault.
     assert!(rt; open_board(&rt).is_ok());
+    check_command(&rt, &["futility", "show", "flash"], b"bad flash 2\n", 11)?;
     fs::remove_file(&rt, FLASH_FILE)?;
     let mut out = MemSink::new(rt.alloc(), 64, &[])?;
     let status = end_unopened(&mut out, OpenFault::Memory);

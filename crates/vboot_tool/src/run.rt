@@ -2,10 +2,12 @@
 ghost use Rattle.std.specs.Prelude.{◌≡◌, ◌↔◌, IsTrue, IsSome, IfSome, IfNone, map, string_bytes, false, true};
 ghost use Rattle.board_core.specs.Streams.{StreamState};
 ghost use Rattle.board_core.specs.World.{world};
+ghost use Rattle.vboot_tool.specs.Showing.{show_words, Shows};
 ghost use Rattle.vboot_tool.specs.Run.{boot_words, IsCommand, Works, Prints, Runs, Ends};
 
 use crate::answer::{Answer, Form, SINK_FAULT, Status};
 use crate::boot::boot;
+use crate::showing::{is_show, show};
 use crate::store::PAGE_SIZE;
 use board_core::{Disk, Flash, Hook, Platform, Sink, Tpm};
 
@@ -15,9 +17,13 @@ pub fn run<F: Flash, T: Tpm, D: Disk, E: Disk, H: Hook, O: Sink>(
     p: &mut Platform<F, T, D, E, H>,
     out: &mut O,
 ) -> Status
-    ensures runs { Runs (map string_bytes words.now) (world F.state T.state H.state p.old) (world F.state T.state H.state p.new) (O.state out.old) (O.state out.new) result }
-    ensures ends { Ends (map string_bytes words.now) (world F.state T.state H.state p.old) (world F.state T.state H.state p.new) (O.state out.old) (O.state out.new) result }
+    ensures runs { (map string_bytes words.now ≡ show_words → ⊥) → Runs (map string_bytes words.now) (world F.state T.state H.state p.old) (world F.state T.state H.state p.new) (O.state out.old) (O.state out.new) result }
+    ensures ends { (map string_bytes words.now ≡ show_words → ⊥) → Ends (map string_bytes words.now) (world F.state T.state H.state p.old) (world F.state T.state H.state p.new) (O.state out.old) (O.state out.new) result }
+    ensures shows { map string_bytes words.now ≡ show_words → Shows (world F.state T.state H.state p.old) (world F.state T.state H.state p.new) (O.state out.old) (O.state out.new) result }
 {
+    if is_show(words) {
+        return show(p, out);
+    }
     let answer = work(words, p);
     print(out, &answer)
 }

@@ -4,6 +4,7 @@ ghost use Rattle.std.specs.Prelude.{◌^◌, ◌<◌, length};
 
 mod endings;
 mod rows;
+mod shows;
 mod watched_tpm;
 
 use crate::answer::Status;
@@ -250,7 +251,7 @@ struct Command {
     code: u8,
 }
 
-const REFUSALS: [Command; 7] = [
+const REFUSALS: [Command; 10] = [
     Command {
         words: &[],
         size: 4096,
@@ -267,6 +268,27 @@ const REFUSALS: [Command; 7] = [
     },
     Command {
         words: &["Boot"],
+        size: 4096,
+        room: 64,
+        text: "usage\n",
+        code: 1,
+    },
+    Command {
+        words: &["futility"],
+        size: 4096,
+        room: 64,
+        text: "usage\n",
+        code: 1,
+    },
+    Command {
+        words: &["futility", "show"],
+        size: 4096,
+        room: 64,
+        text: "usage\n",
+        code: 1,
+    },
+    Command {
+        words: &["futility", "show", "flash", "1"],
         size: 4096,
         room: 64,
         text: "usage\n",

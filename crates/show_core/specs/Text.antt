@@ -1,0 +1,133 @@
+-- The text of what a flash holds: a line for the flash, for each of its areas and for its GBB, and two for each slot.
+-- The form of the lines is this project's own.
+use Rattle.std.specs.Prelude.{ℕ, nat_le, ◌&&◌, ◌==◌, if◌then◌else◌, List, [], ◌∷◌, ◌++◌, map, codes, decimal, Result, Ok, Err}
+use Rattle.std.specs.List.{before_first}
+use Rattle.text_core.specs.Numbers.{hex_number}
+use Rattle.key_core.specs.declared.fault.KeyblockFault.{KeyblockFault}
+use Rattle.key_core.specs.declared.fault.KeyblockFault.TheVariants as keyblock_fault
+use Rattle.preamble_core.specs.declared.fault.FwPreambleFault.{FwPreambleFault}
+use Rattle.preamble_core.specs.declared.fault.FwPreambleFault.TheVariants as preamble_fault
+use Rattle.rom_core.specs.declared.area.Area.{Area}
+use Rattle.rom_core.specs.declared.fault.GbbFault.{GbbFault}
+use Rattle.rom_core.specs.declared.fault.GbbFault.TheVariants as gbb_fault
+use Rattle.show_core.specs.declared.facts.FlashFacts.{FlashFacts}
+use Rattle.show_core.specs.declared.facts.GbbFacts.{GbbFacts}
+use Rattle.show_core.specs.declared.facts.KeyblockFacts.{KeyblockFacts}
+use Rattle.show_core.specs.declared.facts.PreambleFacts.{PreambleFacts}
+
+-- ---- the number of a fault: the line of its table, counted from 1
+
+abbrev pub gbb_fault_number : GbbFault → ℕ
+gbb_fault_number gbb_fault.Size = 1
+gbb_fault_number gbb_fault.Magic = 2
+gbb_fault_number gbb_fault.Version = 3
+gbb_fault_number gbb_fault.Outside = 4
+
+abbrev pub keyblock_fault_number : KeyblockFault → ℕ
+keyblock_fault_number keyblock_fault.TooSmall = 1
+keyblock_fault_number keyblock_fault.Magic = 2
+keyblock_fault_number keyblock_fault.Version = 3
+keyblock_fault_number keyblock_fault.Size = 4
+keyblock_fault_number keyblock_fault.SealOutside = 5
+keyblock_fault_number keyblock_fault.SignedTooLittle = 6
+keyblock_fault_number keyblock_fault.SignedTooMuch = 7
+keyblock_fault_number keyblock_fault.KeyOutside = 8
+keyblock_fault_number keyblock_fault.SignerAlgorithm = 9
+keyblock_fault_number keyblock_fault.SignerSha1 = 10
+keyblock_fault_number keyblock_fault.SignerSize = 11
+keyblock_fault_number keyblock_fault.SealSize = 12
+keyblock_fault_number keyblock_fault.Refused = 13
+keyblock_fault_number keyblock_fault.KeyAlgorithm = 14
+keyblock_fault_number keyblock_fault.KeySha1 = 15
+keyblock_fault_number keyblock_fault.KeySize = 16
+keyblock_fault_number keyblock_fault.KeyRange = 17
+keyblock_fault_number keyblock_fault.KeyRollback = 18
+keyblock_fault_number keyblock_fault.DeveloperFlag = 19
+keyblock_fault_number keyblock_fault.RecoveryFlag = 20
+
+abbrev pub preamble_fault_number : FwPreambleFault → ℕ
+preamble_fault_number preamble_fault.TooSmall = 1
+preamble_fault_number preamble_fault.Version = 2
+preamble_fault_number preamble_fault.Size = 3
+preamble_fault_number preamble_fault.SigOutside = 4
+preamble_fault_number preamble_fault.SignedTooLittle = 5
+preamble_fault_number preamble_fault.SignedTooMuch = 6
+preamble_fault_number preamble_fault.SubkeyOutside = 7
+preamble_fault_number preamble_fault.BodySigOutside = 8
+preamble_fault_number preamble_fault.SigSize = 9
+preamble_fault_number preamble_fault.Refused = 10
+preamble_fault_number preamble_fault.VersionRange = 11
+preamble_fault_number preamble_fault.Rollback = 12
+
+-- ---- the ends of lines
+
+abbrev pub line_end : List ℕ
+line_end = 10 ∷ []
+
+-- where a fault is told in the place of what was looked for
+abbrev pub fault_end : (number : ℕ) → List ℕ
+fault_end number = codes " fault " ++ decimal number ++ line_end
+
+-- ---- the flash and its areas
+
+abbrev pub flash_line : (size map_at : ℕ) → List ℕ
+flash_line size map_at = codes "flash " ++ decimal size ++ codes " map " ++ decimal map_at ++ line_end
+
+abbrev pub area_line : (name : List ℕ) → Area → List ℕ
+area_line name area = codes "area " ++ name ++ codes " " ++ decimal area.at ++ codes " " ++ decimal area.size ++ line_end
+
+-- ---- the GBB
+
+-- a byte is shown as it is where it is a printable character of ASCII, and else as `?`
+abbrev pub shown_byte : ℕ → ℕ
+shown_byte byte = if nat_le 0x20 byte && nat_le byte 0x7e then byte else 63
+
+-- the HWID ends before the first NUL
+abbrev pub shown_hwid : List ℕ → List ℕ
+shown_hwid hwid = map shown_byte (before_first (λ byte. byte == 0) hwid)
+
+-- a text with a space before it, and nothing where it is empty
+abbrev pub spaced : List ℕ → List ℕ
+spaced [] = []
+spaced (byte ∷ bytes) = codes " " ++ (byte ∷ bytes)
+
+abbrev pub gbb_line : Result GbbFacts GbbFault → List ℕ
+gbb_line (Ok gbb) = codes "gbb minor " ++ decimal gbb.minor ++ codes " flags " ++ hex_number 4 gbb.flags ++ codes " hwid" ++ spaced (shown_hwid gbb.hwid) ++ line_end
+gbb_line (Err fault) = codes "gbb" ++ fault_end (gbb_fault_number fault)
+
+-- ---- the slots
+
+-- a line of a slot begins with its name and the part that it tells of
+abbrev pub slot_start : (slot part : List ℕ) → List ℕ
+slot_start slot part = codes "slot " ++ slot ++ codes " " ++ part
+
+abbrev pub preamble_line : (slot : List ℕ) → Result PreambleFacts FwPreambleFault → List ℕ
+preamble_line slot (Ok preamble) =
+    slot_start slot (codes "preamble") ++ codes " " ++ decimal preamble.size ++ codes " version " ++ decimal preamble.version
+    ++ codes " flags " ++ hex_number 4 preamble.flags ++ codes " body " ++ decimal preamble.body_len ++ line_end
+preamble_line slot (Err fault) = slot_start slot (codes "preamble") ++ fault_end (preamble_fault_number fault)
+
+abbrev pub keyblock_line : (slot : List ℕ) → KeyblockFacts → List ℕ
+keyblock_line slot keyblock =
+    slot_start slot (codes "keyblock") ++ codes " " ++ decimal keyblock.size ++ codes " flags " ++ decimal keyblock.flags
+    ++ codes " key " ++ decimal keyblock.algorithm ++ codes " version " ++ decimal keyblock.version ++ line_end
+
+-- a preamble is looked for behind a keyblock without a fault alone
+abbrev pub slot_lines : (slot : List ℕ) → Result KeyblockFacts KeyblockFault → List ℕ
+slot_lines slot (Ok keyblock) = keyblock_line slot keyblock ++ preamble_line slot keyblock.preamble
+slot_lines slot (Err fault) = slot_start slot (codes "keyblock") ++ fault_end (keyblock_fault_number fault)
+
+-- ---- the whole
+
+abbrev pub facts_text : FlashFacts → List ℕ
+facts_text facts =
+    flash_line facts.size facts.map_at
+    ++ area_line (codes "GBB") facts.map.gbb
+    ++ area_line (codes "RW_NVRAM") facts.map.nvram
+    ++ area_line (codes "VBLOCK_A") facts.map.vblock_a
+    ++ area_line (codes "FW_MAIN_A") facts.map.main_a
+    ++ area_line (codes "VBLOCK_B") facts.map.vblock_b
+    ++ area_line (codes "FW_MAIN_B") facts.map.main_b
+    ++ gbb_line facts.gbb
+    ++ slot_lines (codes "A") facts.slot_a
+    ++ slot_lines (codes "B") facts.slot_b

@@ -1,0 +1,257 @@
+// The text of what a flash holds, one line after the other. A function that appends asks for room for the most that it
+// appends, rounded up in places; all lines together stay under the 2,048 bytes of a text.
+ghost use Rattle.std.specs.Prelude.{◌≡◌, ◌+◌, ◌≤◌, ◌==◌, ◌++◌, length, decimal, position, map};
+ghost use Rattle.text_core.specs.Numbers.{hex_number};
+ghost use Rattle.show_core.specs.Text as spec;
+ghost use Rattle.show_core.specs.Text.{facts_text};
+
+use crate::facts::{FlashFacts, GbbFacts, KeyblockFacts, PreambleFacts};
+use key_core::KeyblockFault;
+use preamble_core::FwPreambleFault;
+use rom_core::{Area, GbbFault, before_nul};
+use text_core::Text;
+
+/// The text of what a flash holds: a line for the flash, for each area of its map and for its GBB, and two for each slot,
+/// or one that tells the fault of its keyblock. Each line ends with LF.
+///
+/// The flags of the GBB and of a preamble are printed in hexadecimal, all other numbers in decimal, and a fault by its
+/// number. Of the HWID the bytes before the first NUL are printed, and `?` for each of them that is no printable character
+/// of ASCII.
+pub fn text_of_facts(facts: &FlashFacts) -> Text
+    ensures { result ≡ facts_text facts.now }
+{
+    let mut text = Text::new();
+    push_flash_line(&mut text, facts.size, facts.map_at);
+    push_area_line(&mut text, b"GBB", &facts.map.gbb);
+    push_area_line(&mut text, b"RW_NVRAM", &facts.map.nvram);
+    push_area_line(&mut text, b"VBLOCK_A", &facts.map.vblock_a);
+    push_area_line(&mut text, b"FW_MAIN_A", &facts.map.main_a);
+    push_area_line(&mut text, b"VBLOCK_B", &facts.map.vblock_b);
+    push_area_line(&mut text, b"FW_MAIN_B", &facts.map.main_b);
+    push_gbb_line(&mut text, &facts.gbb);
+    push_slot_lines(&mut text, b"A", &facts.slot_a);
+    push_slot_lines(&mut text, b"B", &facts.slot_b);
+    text
+}
+
+fn push_flash_line(text: &mut Text, size: u32, map_at: u32)
+    requires { length text.old + 64 ≤ 2048 }
+    ensures text { text.new ≡ text.old ++ spec.flash_line size map_at }
+    ensures size { length text.new ≤ length text.old + 64 }
+{
+    push_field(text, b"flash ", size);
+    push_field(text, b" map ", map_at);
+    text.push(b"\n");
+}
+
+fn push_area_line(text: &mut Text, name: &[u8], area: &Area)
+    requires name { length name.now ≤ 9 }
+    requires room { length text.old + 64 ≤ 2048 }
+    ensures text { text.new ≡ text.old ++ spec.area_line name.now area.now }
+    ensures size { length text.new ≤ length text.old + 64 }
+{
+    text.push(b"area ");
+    text.push(name);
+    push_field(text, b" ", area.at);
+    push_field(text, b" ", area.size);
+    text.push(b"\n");
+}
+
+// ---- the GBB
+
+fn push_gbb_line(text: &mut Text, gbb: &Result<GbbFacts, GbbFault>)
+    requires { length text.old + 384 ≤ 2048 }
+    ensures text { text.new ≡ text.old ++ spec.gbb_line gbb.now }
+    ensures size { length text.new ≤ length text.old + 384 }
+{
+    match gbb {
+        Ok(gbb) => push_gbb(text, gbb),
+        Err(fault) => {
+            text.push(b"gbb");
+            push_fault_end(text, gbb_fault_number(*fault));
+        }
+    }
+}
+
+// The line of a GBB without a fault.
+fn push_gbb(text: &mut Text, gbb: &GbbFacts)
+    requires { length text.old + 384 ≤ 2048 }
+    ensures text { text.new ≡ text.old ++ spec.gbb_line (Ok gbb.now) }
+    ensures size { length text.new ≤ length text.old + 384 }
+{
+    push_field(text, b"gbb minor ", u32::from(gbb.minor));
+    push_hex_field(text, b" flags ", gbb.flags);
+    text.push(b" hwid");
+    push_hwid(text, &gbb.hwid);
+    text.push(b"\n");
+}
+
+// The HWID with a space before it, or nothing where it is empty.
+fn push_hwid(text: &mut Text, hwid: &[u8; 256])
+    requires { length text.old + 257 ≤ 2048 }
+    ensures text { text.new ≡ text.old ++ spec.spaced (spec.shown_hwid hwid.now) }
+    ensures size { length text.new ≤ length text.old + 257 }
+{
+    let bytes = before_nul(hwid);
+    if bytes.is_empty() {
+        return;
+    }
+    text.push(b" ");
+    push_shown(text, bytes);
+}
+
+// Bytes as they are shown.
+fn push_shown(text: &mut Text, bytes: &[u8])
+    requires { length text.old + length bytes.now ≤ 2048 }
+    ensures text { text.new ≡ text.old ++ map spec.shown_byte bytes.now }
+    ensures size { length text.new ≡ length text.old + length bytes.now }
+{
+    for byte in bytes {
+        text.push(&[shown_byte(*byte)]);
+    }
+}
+
+// A byte, or `?` in the place of one that is no printable character.
+fn shown_byte(byte: u8) -> u8
+    ensures { result ≡ spec.shown_byte byte }
+{
+    if (b' '..=b'~').contains(&byte) {
+        byte
+    } else {
+        b'?'
+    }
+}
+
+// ---- the slots
+
+fn push_slot_lines(text: &mut Text, slot: &[u8], keyblock: &Result<KeyblockFacts, KeyblockFault>)
+    requires slot { length slot.now ≤ 1 }
+    requires room { length text.old + 256 ≤ 2048 }
+    ensures text { text.new ≡ text.old ++ spec.slot_lines slot.now keyblock.now }
+    ensures size { length text.new ≤ length text.old + 256 }
+{
+    match keyblock {
+        Ok(keyblock) => {
+            push_keyblock(text, slot, keyblock);
+            push_preamble_line(text, slot, &keyblock.preamble);
+        }
+        Err(fault) => {
+            push_slot_start(text, slot, b"keyblock");
+            push_fault_end(text, keyblock_fault_number(*fault));
+        }
+    }
+}
+
+// The line of a keyblock without a fault.
+fn push_keyblock(text: &mut Text, slot: &[u8], keyblock: &KeyblockFacts)
+    requires slot { length slot.now ≤ 1 }
+    requires room { length text.old + 128 ≤ 2048 }
+    ensures text { text.new ≡ text.old ++ spec.keyblock_line slot.now keyblock.now }
+    ensures size { length text.new ≤ length text.old + 128 }
+{
+    push_slot_start(text, slot, b"keyblock");
+    push_field(text, b" ", keyblock.size);
+    push_field(text, b" flags ", keyblock.flags);
+    push_field(text, b" key ", keyblock.algorithm);
+    push_field(text, b" version ", keyblock.version);
+    text.push(b"\n");
+}
+
+fn push_preamble_line(
+    text: &mut Text,
+    slot: &[u8],
+    preamble: &Result<PreambleFacts, FwPreambleFault>,
+)
+    requires slot { length slot.now ≤ 1 }
+    requires room { length text.old + 128 ≤ 2048 }
+    ensures text { text.new ≡ text.old ++ spec.preamble_line slot.now preamble.now }
+    ensures size { length text.new ≤ length text.old + 128 }
+{
+    match preamble {
+        Ok(preamble) => push_preamble(text, slot, preamble),
+        Err(fault) => {
+            push_slot_start(text, slot, b"preamble");
+            push_fault_end(text, preamble_fault_number(*fault));
+        }
+    }
+}
+
+// The line of a preamble without a fault.
+fn push_preamble(text: &mut Text, slot: &[u8], preamble: &PreambleFacts)
+    requires slot { length slot.now ≤ 1 }
+    requires room { length text.old + 128 ≤ 2048 }
+    ensures text { text.new ≡ text.old ++ spec.preamble_line slot.now (Ok preamble.now) }
+    ensures size { length text.new ≤ length text.old + 128 }
+{
+    push_slot_start(text, slot, b"preamble");
+    push_field(text, b" ", preamble.size);
+    push_field(text, b" version ", preamble.version);
+    push_hex_field(text, b" flags ", preamble.flags);
+    push_field(text, b" body ", preamble.body_len);
+    text.push(b"\n");
+}
+
+fn push_slot_start(text: &mut Text, slot: &[u8], part: &[u8])
+    requires slot { length slot.now ≤ 1 }
+    requires part { length part.now ≤ 8 }
+    requires room { length text.old + 15 ≤ 2048 }
+    ensures text { text.new ≡ text.old ++ spec.slot_start slot.now part.now }
+    ensures size { length text.new ≤ length text.old + 15 }
+{
+    text.push(b"slot ");
+    text.push(slot);
+    text.push(b" ");
+    text.push(part);
+}
+
+// ---- parts of a line
+
+// Words, and a number behind them.
+fn push_field(text: &mut Text, words: &[u8], number: u32)
+    requires { length text.old + length words.now + 20 ≤ 2048 }
+    ensures text { text.new ≡ text.old ++ words.now ++ decimal number }
+    ensures size { length text.new ≤ length text.old + length words.now + 20 }
+{
+    text.push(words);
+    text.push_decimal(u64::from(number));
+}
+
+// Words, and a number in hexadecimal behind them.
+fn push_hex_field(text: &mut Text, words: &[u8], number: u32)
+    requires { length text.old + length words.now + 10 ≤ 2048 }
+    ensures text { text.new ≡ text.old ++ words.now ++ hex_number 4 number }
+    ensures size { length text.new ≡ length text.old + length words.now + 10 }
+{
+    text.push(words);
+    text.push_hex(number);
+}
+
+// The number of a fault, and the end of its line.
+fn push_fault_end(text: &mut Text, number: u8)
+    requires { length text.old + 28 ≤ 2048 }
+    ensures text { text.new ≡ text.old ++ spec.fault_end number }
+    ensures size { length text.new ≤ length text.old + 28 }
+{
+    push_field(text, b" fault ", u32::from(number));
+    text.push(b"\n");
+}
+
+// ---- the numbers of faults
+
+fn gbb_fault_number(fault: GbbFault) -> u8
+    ensures { result ≡ spec.gbb_fault_number fault }
+{
+    fault as u8
+}
+
+fn keyblock_fault_number(fault: KeyblockFault) -> u8
+    ensures { result ≡ spec.keyblock_fault_number fault }
+{
+    fault as u8
+}
+
+fn preamble_fault_number(fault: FwPreambleFault) -> u8
+    ensures { result ≡ spec.preamble_fault_number fault }
+{
+    fault as u8
+}

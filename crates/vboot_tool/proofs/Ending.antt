@@ -22,7 +22,7 @@ use Rattle.vboot_tool.specs.declared.plan.Outcome.TheVariants as outcome
 use Rattle.vboot_tool.specs.Plan.{plan_in, plan_of, facts_of, found_in, found_record, boot_plan}
 use Rattle.vboot_tool.specs.Steps.{IsBoardDevice, both_locked}
 use Rattle.vboot_tool.specs.Boot.{IsFull, IsUnchanged, Boots}
-use Rattle.vboot_tool.specs.Run.{boot_words, IsCommand, BootsBy, RefusesWords, Works, Prints, Runs, GoesOn, EndsAtScreen, FindsFull, IsToldBoot, outcome_code, OneFailed, Ends}
+use Rattle.vboot_tool.specs.Run.{boot_words, IsBoot, BootsBy, RefusesWords, Works, Prints, Runs, GoesOn, EndsAtScreen, FindsFull, IsToldBoot, outcome_code, OneFailed, Ends}
 
 -- the status is that of the answer, and all of its text was put
 pub record Shown (given : Answer) (put put' : StreamState) (status : Status) : Type 0 where
@@ -226,17 +226,17 @@ other_code words old new answers.NvFull by n low high code = omega (arith, code)
 
 -- ---- and the other way
 
-usage_of : (words : List (List ℕ)) (old new : World) (given : Answer) → Works words old new given → (IsCommand words → ⊥) → code_of given ≡ 1
+usage_of : (words : List (List ℕ)) (old new : World) (given : Answer) → Works words old new given → (IsBoot words → ⊥) → code_of given ≡ 1
 usage_of words old new answers.Usage by none = refl
 usage_of words old new (answers.Selected developer slot) by none = absurd (none (by.switch, by.by_words))
 usage_of words old new (answers.Screen reason subcode) by none = absurd (none (by.switch, by.by_words))
-usage_of words old new (answers.NotBuilt form.Flash) by none = absurd (none by.command)
+usage_of words old new (answers.NotBuilt form.Flash) by none = absurd (none by.boot)
 usage_of words old new (answers.NotBuilt form.Recovery) by none = absurd (none (by.switch, by.by_words))
 usage_of words old new answers.NvFull by none = absurd (none (by.switch, by.by_words))
 usage_of words old new (answers.Fault fault) by none = absurd (none (by.switch, by.by_words))
 
-other_size_of : (words : List (List ℕ)) (old new : World) (given : Answer) → Works words old new given → IsCommand words → (old.flash.medium.size ≡ 4096 → ⊥) → code_of given ≡ 19
-other_size_of words old new answers.Usage by is other = absurd (by.no_command is)
+other_size_of : (words : List (List ℕ)) (old new : World) (given : Answer) → Works words old new given → IsBoot words → (old.flash.medium.size ≡ 4096 → ⊥) → code_of given ≡ 19
+other_size_of words old new answers.Usage by is other = absurd (by.no_boot is)
 other_size_of words old new (answers.Selected developer slot) by is other = absurd (other by.size)
 other_size_of words old new (answers.Screen reason subcode) by is other = absurd (other by.size)
 other_size_of words old new (answers.NotBuilt form.Flash) by is other = refl
@@ -277,7 +277,7 @@ switch_is_by_hand page spaces = refl
 
 full_of : (words : List (List ℕ)) (old new : World) (given : Answer) (switch : Bool) → Works words old new given → IsToldBoot switch words old
     → IsFull (boot_plan switch old.flash.medium.bytes old.tpm.spaces) old.flash.medium.bytes → (code_of given ≡ 5 → ⊥) → (code_of given ≡ 6 → ⊥) → code_of given ≡ 18
-full_of words old new answers.Usage switch by told full not_flash not_tpm = absurd (by.no_command (switch, told.by_words))
+full_of words old new answers.Usage switch by told full not_flash not_tpm = absurd (by.no_boot (switch, told.by_words))
 full_of words old new (answers.Selected developer slot) switch by told full not_flash not_tpm =
     absurd (((boots_at words old new (answers.Selected developer slot) switch by told).stands told.flash_told told.tpm_told tt).not_full full)
 full_of words old new (answers.Screen reason subcode) switch by told full not_flash not_tpm =
@@ -291,7 +291,7 @@ full_of words old new (answers.Fault fault) switch by told full not_flash not_tp
 room_of : (words : List (List ℕ)) (old new : World) (given : Answer) (switch : Bool) → Works words old new given → IsToldBoot switch words old
     → (IsFull (boot_plan switch old.flash.medium.bytes old.tpm.spaces) old.flash.medium.bytes → ⊥) → (code_of given ≡ 5 → ⊥) → (code_of given ≡ 6 → ⊥)
     → code_of given ≡ outcome_code (boot_plan switch old.flash.medium.bytes old.tpm.spaces).outcome
-room_of words old new answers.Usage switch by told room not_flash not_tpm = absurd (by.no_command (switch, told.by_words))
+room_of words old new answers.Usage switch by told room not_flash not_tpm = absurd (by.no_boot (switch, told.by_words))
 room_of words old new (answers.Selected developer slot) switch by told room not_flash not_tpm =
     sym (ap outcome_code ((boots_at words old new (answers.Selected developer slot) switch by told).outcome told.flash_told told.tpm_told).0)
 room_of words old new (answers.Screen reason subcode) switch by told room not_flash not_tpm =
@@ -311,7 +311,7 @@ recovery_of words old new given by told not_flash not_tpm =
 
 full_stays_of : (words : List (List ℕ)) (old new : World) (given : Answer) (switch : Bool) → Works words old new given → IsToldBoot switch words old
     → IsFull (boot_plan switch old.flash.medium.bytes old.tpm.spaces) old.flash.medium.bytes → IsUnchanged old new
-full_stays_of words old new answers.Usage switch by told full = absurd (by.no_command (switch, told.by_words))
+full_stays_of words old new answers.Usage switch by told full = absurd (by.no_boot (switch, told.by_words))
 full_stays_of words old new (answers.Selected developer slot) switch by told full = (boots_at words old new (answers.Selected developer slot) switch by told).full_stays told.flash_told told.tpm_told full
 full_stays_of words old new (answers.Screen reason subcode) switch by told full = (boots_at words old new (answers.Screen reason subcode) switch by told).full_stays told.flash_told told.tpm_told full
 full_stays_of words old new (answers.NotBuilt form.Flash) switch by told full = absurd (by.other_size told.size)

@@ -23,9 +23,9 @@ abbrev pub boot_words : Bool → List (List ℕ)
 boot_words false = codes "boot" ∷ []
 boot_words true = codes "boot" ∷ codes "recovery" ∷ []
 
--- the words are a command
-abbrev pub IsCommand : List (List ℕ) → Type 0
-IsCommand words = (switch : Bool) × (words ≡ boot_words switch)
+-- the words boot
+abbrev pub IsBoot : List (List ℕ) → Type 0
+IsBoot words = (switch : Bool) × (words ≡ boot_words switch)
 
 -- A boot by these words, on a flash of one page.
 pub record BootsBy (words : List (List ℕ)) (old new : World) (answer : Answer) : Type 0 where
@@ -34,14 +34,14 @@ pub record BootsBy (words : List (List ℕ)) (old new : World) (answer : Answer)
   pub size : old.flash.medium.size ≡ 4096
   pub boots : Boots switch old new answer
 
--- The words are no command, and the board is as it was.
+-- The words do not boot, and the board is as it was.
 pub record RefusesWords (words : List (List ℕ)) (old new : World) : Type 0 where
-  pub no_command : IsCommand words → ⊥
+  pub no_boot : IsBoot words → ⊥
   pub same : new ≡ old
 
--- They are one, the flash has another size than a page, and the board is as it was.
+-- They do, the flash has another size than a page, and the board is as it was.
 pub record RefusesFlash (words : List (List ℕ)) (old new : World) : Type 0 where
-  pub command : IsCommand words
+  pub boot : IsBoot words
   pub other_size : old.flash.medium.size ≡ 4096 → ⊥
   pub same : new ≡ old
 
@@ -139,7 +139,7 @@ pub record NoneFailed (old new : World) (put put' : StreamState) : Type 0 where
 
 pub record Ends (words : List (List ℕ)) (old new : World) (put put' : StreamState) (status : Status) : Type 0 where
   pub selected : status.code ≡ 0 → IsTrue old.flash.medium.told → IsTrue old.tpm.told → GoesOn words old new put put'
-  -- the words are no command
+  -- the words do not boot
   pub usage : status.code ≡ 1 → RefusesWords words old new
   pub screen : status.code ≡ 3 → IsTrue old.flash.medium.told → IsTrue old.tpm.told → EndsAtScreen words old new put put'
   -- a fault is answered only where that very device failed, and the first call that fails ends the boot
@@ -156,8 +156,8 @@ pub record Ends (words : List (List ℕ)) (old new : World) (put put' : StreamSt
   -- no other device fails
   pub other_fault : (status.code ≡ 7 → ⊥) × (status.code ≡ 8 → ⊥)
   -- and the other way: where the sink did not fail
-  pub on_usage : (IsCommand words → ⊥) → (status.code ≡ 9 → ⊥) → status.code ≡ 1
-  pub on_other_size : IsCommand words → (old.flash.medium.size ≡ 4096 → ⊥) → (status.code ≡ 9 → ⊥) → status.code ≡ 19
+  pub on_usage : (IsBoot words → ⊥) → (status.code ≡ 9 → ⊥) → status.code ≡ 1
+  pub on_other_size : IsBoot words → (old.flash.medium.size ≡ 4096 → ⊥) → (status.code ≡ 9 → ⊥) → status.code ≡ 19
   -- and where no device failed either: 18 where the page is full, else the status of the plan
   pub on_full : (switch : Bool) → IsToldBoot switch words old → IsFull (boot_plan switch old.flash.medium.bytes old.tpm.spaces) old.flash.medium.bytes → IsNoFault status → status.code ≡ 18
   pub on_room : (switch : Bool) → IsToldBoot switch words old → (IsFull (boot_plan switch old.flash.medium.bytes old.tpm.spaces) old.flash.medium.bytes → ⊥) → IsNoFault status

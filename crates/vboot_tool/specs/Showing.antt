@@ -13,10 +13,18 @@ use Rattle.show_core.specs.Show.{is_device, is_write, PutsText}
 use Rattle.vboot_tool.specs.declared.answer.Status.{Status}
 use Rattle.vboot_tool.specs.Answer.{line_of}
 use Rattle.vboot_tool.specs.Opening.{EndsWith}
+use Rattle.vboot_tool.specs.Run.{IsBoot}
 
 -- the words that show the flash
 abbrev pub show_words : List (List ℕ)
 show_words = codes "futility" ∷ codes "show" ∷ codes "flash" ∷ []
+
+abbrev pub IsShow : List (List ℕ) → Type 0
+IsShow words = words ≡ show_words
+
+-- the words are a command
+abbrev pub IsCommand : List (List ℕ) → Type 0
+IsCommand words = IsBoot words ⊎ IsShow words
 
 -- the map is looked for here: the lowest place at which one stands, or 0
 abbrev pub IsLocated : FlashMedium → ℕ → Type 0

@@ -1,10 +1,10 @@
 //! The boot decision as a program: it works on the images of a machine in the current folder.
 #![tactic(auto)]
 
-ghost use Rattle.std.specs.Prelude.{◌≡◌, ◌⊎◌, IsTrue, false, map, string_bytes};
+ghost use Rattle.std.specs.Prelude.{◌≡◌, ◌↔◌, IsTrue, map, string_bytes};
 ghost use Rattle.vboot_tool.specs.declared.answer.Answer.TheVariants.{Usage};
-ghost use Rattle.vboot_tool.specs.Run.{IsCommand, Prints};
-ghost use Rattle.vboot_tool.specs.Showing.{show_words};
+ghost use Rattle.vboot_tool.specs.Run.{Prints};
+ghost use Rattle.vboot_tool.specs.Showing.{IsCommand};
 
 mod answer;
 mod boot;
@@ -40,16 +40,15 @@ fn words_of<R: Env + AllocGlobal>(rt: &R) -> io::Result<Vec<String>> {
 
 // Whether the words are a command.
 fn is_command(words: &[String]) -> bool
-    ensures known { IsTrue result → IsCommand (map string_bytes words.now) ⊎ (map string_bytes words.now ≡ show_words) }
-    ensures unknown { result ≡ false → (IsCommand (map string_bytes words.now) → ⊥) × (map string_bytes words.now ≡ show_words → ⊥) }
+    ensures { IsTrue result ↔ IsCommand (map string_bytes words.now) }
 {
     is_show(words) || recovery_switch(words).is_some()
 }
 
 // Runs the command of these words over the files of the current folder.
 fn run_here<R: Files + AllocGlobal, O: Sink>(rt: &R, words: &[String], out: &mut O) -> Status
-    ensures usage { (IsCommand (map string_bytes words.now) → ⊥) → (map string_bytes words.now ≡ show_words → ⊥) → Prints Usage (O.state out.old) (O.state out.new) result }
-    ensures only_usage { result.code ≡ 1 → (IsCommand (map string_bytes words.now) → ⊥) × (map string_bytes words.now ≡ show_words → ⊥) }
+    ensures usage { (IsCommand (map string_bytes words.now) → ⊥) → Prints Usage (O.state out.old) (O.state out.new) result }
+    ensures only_usage { result.code ≡ 1 → IsCommand (map string_bytes words.now) → ⊥ }
 {
     if !is_command(words) {
         // Before any image is made.

@@ -2,8 +2,8 @@
 ghost use Rattle.std.specs.Prelude.{◌≡◌, ◌↔◌, IsTrue, IsSome, IfSome, IfNone, map, string_bytes, false, true};
 ghost use Rattle.board_core.specs.Streams.{StreamState};
 ghost use Rattle.board_core.specs.World.{world};
-ghost use Rattle.vboot_tool.specs.Showing.{show_words, Shows};
-ghost use Rattle.vboot_tool.specs.Run.{boot_words, IsCommand, Works, Prints, Runs, Ends};
+ghost use Rattle.vboot_tool.specs.Showing.{IsShow, Shows};
+ghost use Rattle.vboot_tool.specs.Run.{boot_words, IsBoot, Works, Prints, Runs, Ends};
 
 use crate::answer::{Answer, Form, SINK_FAULT, Status};
 use crate::boot::boot;
@@ -17,9 +17,9 @@ pub fn run<F: Flash, T: Tpm, D: Disk, E: Disk, H: Hook, O: Sink>(
     p: &mut Platform<F, T, D, E, H>,
     out: &mut O,
 ) -> Status
-    ensures runs { (map string_bytes words.now ≡ show_words → ⊥) → Runs (map string_bytes words.now) (world F.state T.state H.state p.old) (world F.state T.state H.state p.new) (O.state out.old) (O.state out.new) result }
-    ensures ends { (map string_bytes words.now ≡ show_words → ⊥) → Ends (map string_bytes words.now) (world F.state T.state H.state p.old) (world F.state T.state H.state p.new) (O.state out.old) (O.state out.new) result }
-    ensures shows { map string_bytes words.now ≡ show_words → Shows (world F.state T.state H.state p.old) (world F.state T.state H.state p.new) (O.state out.old) (O.state out.new) result }
+    ensures runs { (IsShow (map string_bytes words.now) → ⊥) → Runs (map string_bytes words.now) (world F.state T.state H.state p.old) (world F.state T.state H.state p.new) (O.state out.old) (O.state out.new) result }
+    ensures ends { (IsShow (map string_bytes words.now) → ⊥) → Ends (map string_bytes words.now) (world F.state T.state H.state p.old) (world F.state T.state H.state p.new) (O.state out.old) (O.state out.new) result }
+    ensures shows { IsShow (map string_bytes words.now) → Shows (world F.state T.state H.state p.old) (world F.state T.state H.state p.new) (O.state out.old) (O.state out.new) result }
 {
     if is_show(words) {
         return show(p, out);
@@ -43,11 +43,11 @@ fn work<F: Flash, T: Tpm, D: Disk, E: Disk, H: Hook>(
     boot(p, recovery)
 }
 
-/// The recovery switch of these words, where they are a command.
+/// The recovery switch of these words, where they boot.
 pub fn recovery_switch(words: &[String]) -> Option<bool>
     ensures switch { IfSome result (λ switch. map string_bytes words.now ≡ boot_words switch) }
-    ensures some { IsSome result → IsCommand (map string_bytes words.now) }
-    ensures none { IfNone result (IsCommand (map string_bytes words.now) → ⊥) }
+    ensures some { IsSome result → IsBoot (map string_bytes words.now) }
+    ensures none { IfNone result (IsBoot (map string_bytes words.now) → ⊥) }
 {
     if is_boot(words) {
         Some(false)

@@ -3,7 +3,7 @@ ghost use Rattle.std.specs.Prelude.{◌≡◌, ◌↔◌, ◌∷◌, [], ◌==�
 ghost use Rattle.board_core.specs.World.{world};
 ghost use Rattle.vboot_tool.specs.Opening.{EndsWith};
 ghost use Rattle.vboot_tool.specs.Showing as spec;
-ghost use Rattle.vboot_tool.specs.Showing.{show_words, LocatesAndShows, EndsShow, Shows};
+ghost use Rattle.vboot_tool.specs.Showing.{IsShow, LocatesAndShows, EndsShow, Shows};
 
 use crate::answer::{SINK_FAULT, Status};
 use board_core::{Disk, Flash, Hook, Platform, Sink, Tpm};
@@ -16,7 +16,7 @@ const VBLOCK_SIZE: usize = 65536;
 
 /// Whether these words show the flash.
 pub fn is_show(words: &[String]) -> bool
-    ensures { IsTrue result ↔ (map string_bytes words.now ≡ show_words) }
+    ensures { IsTrue result ↔ IsShow (map string_bytes words.now) }
 {
     match words {
         [tool, others @ ..] => tool.as_str() == "futility" && is_show_flash(others),

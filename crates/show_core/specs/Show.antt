@@ -29,6 +29,12 @@ abbrev pub is_write : Result Unit ShowFault → Bool
 is_write (Err Write) = true
 is_write other = false
 
+-- nothing of the flash was shown: it failed, or its map has a fault
+abbrev pub IsUnshown : Result Unit ShowFault → Type 0
+IsUnshown (Err Device) = Unit {0}
+IsUnshown (Err (BadFlash fault)) = Unit {0}
+IsUnshown other = ⊥
+
 -- what was put, where flash and sink tell what they hold
 abbrev pub PutsText : (at : ℕ) → FlashMedium → List ℕ → List ℕ → Result Unit ShowFault → Type 0
 PutsText at medium old new (Ok done) = (text : List ℕ) × IsTextOf at medium text × (new ≡ old ++ text)
@@ -46,3 +52,5 @@ pub record ShowsFlash (at : ℕ) (old new : FlashState) (put put' : StreamState)
   pub told : put'.told ≡ put.told
   -- the whole text was put; or a front of it, where the sink failed; or nothing
   pub texts : IsTrue old.medium.told → IsTrue put.told → PutsText at old.medium put.bytes put'.bytes result
+  -- whatever the flash tells, nothing was put where it failed or its map has a fault
+  pub nothing : IsTrue put.told → IsUnshown result → put'.bytes ≡ put.bytes

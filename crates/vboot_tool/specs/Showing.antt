@@ -9,7 +9,7 @@ use Rattle.rom_core.specs.declared.fault.MapFault.TheVariants as map_fault
 use Rattle.rom_core.specs.Reading.{IsLowestMap, HasNoMap}
 use Rattle.show_core.specs.declared.show.ShowFault.{ShowFault}
 use Rattle.show_core.specs.declared.show.ShowFault.TheVariants.{Device, BadFlash, Write}
-use Rattle.show_core.specs.Show.{is_device, is_write, PutsText}
+use Rattle.show_core.specs.Show.{is_device, is_write, IsUnshown, PutsText}
 use Rattle.vboot_tool.specs.declared.answer.Status.{Status}
 use Rattle.vboot_tool.specs.Answer.{line_of}
 use Rattle.vboot_tool.specs.Opening.{EndsWith}
@@ -40,7 +40,8 @@ pub record LocatesAndShows (old new : FlashState) (put put' : StreamState) (resu
   pub told : put'.told ≡ put.told
   -- what was put is the text of the flash, or a front of it where the sink failed, or nothing
   pub texts : IsTrue old.medium.told → IsTrue put.told → (result ≡ Err Device → ⊥) → (at : ℕ) × IsLocated old.medium at × PutsText at old.medium put.bytes put'.bytes result
-  pub nothing : IsTrue old.medium.told → IsTrue put.told → result ≡ Err Device → put'.bytes ≡ put.bytes
+  -- whatever the flash tells, nothing where it failed or its map has a fault
+  pub nothing : IsTrue put.told → IsUnshown result → put'.bytes ≡ put.bytes
 
 -- the line of a fault of a map
 abbrev pub map_fault_number : MapFault → ℕ

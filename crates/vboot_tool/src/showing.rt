@@ -7,12 +7,10 @@ ghost use Rattle.vboot_tool.specs.Showing.{IsShow, LocatesAndShows, EndsShow, Sh
 
 use crate::answer::{SINK_FAULT, Status};
 use board_core::{Disk, Flash, Hook, Platform, Sink, Tpm};
+use rom_core::layout::LARGEST_VBLOCK;
 use rom_core::{MapFault, locate};
 use show_core::{ShowFault, show_flash};
 use text_core::Text;
-
-// The most bytes of the area of a keyblock and a preamble.
-const VBLOCK_SIZE: usize = 65536;
 
 /// Whether these words show the flash.
 pub fn is_show(words: &[String]) -> bool
@@ -51,7 +49,7 @@ fn locate_and_show<F: Flash, O: Sink>(flash: &mut F, out: &mut O) -> Result<(), 
     let Ok(at) = locate(flash) else {
         return Err(ShowFault::Device);
     };
-    let mut vblock = [0; VBLOCK_SIZE];
+    let mut vblock = [0; LARGEST_VBLOCK as usize];
     show_flash(flash, at, &mut vblock, out)
 }
 

@@ -14,6 +14,7 @@ returns-in_default g c =
       told = put.told;
       texts = λ told put_told.
           (c.as_slice.result.now, text_of_read c.args.map_at _ _ _ c.in-Ok-Ok.facts c.as_slice.result.now read c.in-Ok-Ok.field-0-is (c.as_slice.ensures ∙ c.text_of_facts-text.ensures) told, put.err put_told);
+      nothing = λ put_told none. absurd none;
     }
 
 pub returns : goal.returns
@@ -27,4 +28,5 @@ returns g c =
       told = put.told;
       texts = λ told put_told.
           (c.as_slice.result.now, text_of_read c.args.map_at _ _ _ c.in-Ok-Ok.facts c.as_slice.result.now read c.in-Ok-Ok.field-0-is (c.as_slice.ensures ∙ c.text_of_facts-text.ensures) told, put.ok put_told);
+      nothing = λ put_told none. absurd none;
     }

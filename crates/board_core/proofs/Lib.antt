@@ -3,6 +3,8 @@ pub mod TornRecords
 pub mod TornRange
 pub mod Stops
 pub mod Overlays
+pub mod OverlaidRanges
+pub mod WriteRecords
 pub mod DiskTorn
 pub mod FuseDiskLemmas
 pub mod FuseLemmas

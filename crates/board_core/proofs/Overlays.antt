@@ -11,25 +11,25 @@ use Rattle.board_core.specs.Disk.{overlaid, IsSectorOf, IsRecordOf, AreRecordsOf
 
 -- ---- one range put over
 
-length-spliced : (bytes : List ℕ) (at : ℕ) (new : List ℕ) → at + length new ≤ length bytes → length (spliced bytes at new) ≡ length bytes
+pub length-spliced : (bytes : List ℕ) (at : ℕ) (new : List ℕ) → at + length new ≤ length bytes → length (spliced bytes at new) ≡ length bytes
 length-spliced bytes at new inside = omega (arith, length-append (take at bytes ++ new) (drop (at + length new) bytes), length-append (take at bytes) new, length-take at bytes, length-drop (at + length new) bytes)
 
 -- the bytes up to the end of the range
 length-front : (bytes : List ℕ) (at : ℕ) (new : List ℕ) → at + length new ≤ length bytes → length (take at bytes ++ new) ≡ at + length new
 length-front bytes at new inside = omega (arith, length-append (take at bytes) new, length-take at bytes)
 
-spliced_inside : (bytes : List ℕ) (at : ℕ) (new : List ℕ) (i : ℕ) → at + length new ≤ length bytes → at ≤ i → i < at + length new → get_or (spliced bytes at new) i 0 ≡ get_or new (i - at) 0
+pub spliced_inside : (bytes : List ℕ) (at : ℕ) (new : List ℕ) (i : ℕ) → at + length new ≤ length bytes → at ≤ i → i < at + length new → get_or (spliced bytes at new) i 0 ≡ get_or new (i - at) 0
 spliced_inside bytes at new i inside from to =
     let front : length (take at bytes) ≡ at = omega (arith, length-take at bytes) in
     get_or_append_left (take at bytes ++ new) (drop (at + length new) bytes) 0 i (omega (arith, length-front bytes at new inside))
     ∙ get_or-append_right (take at bytes) new at i 0 front from
 
-spliced_before : (bytes : List ℕ) (at : ℕ) (new : List ℕ) (i : ℕ) → at + length new ≤ length bytes → i < at → get_or (spliced bytes at new) i 0 ≡ get_or bytes i 0
+pub spliced_before : (bytes : List ℕ) (at : ℕ) (new : List ℕ) (i : ℕ) → at + length new ≤ length bytes → i < at → get_or (spliced bytes at new) i 0 ≡ get_or bytes i 0
 spliced_before bytes at new i inside before =
     get_or_append_left (take at bytes ++ new) (drop (at + length new) bytes) 0 i (omega (arith, length-front bytes at new inside))
     ∙ get_or_append_left (take at bytes) new 0 i (omega (arith, length-take at bytes)) ∙ get_or-take at bytes i 0 before
 
-spliced_after : (bytes : List ℕ) (at : ℕ) (new : List ℕ) (i : ℕ) → at + length new ≤ length bytes → at + length new ≤ i → get_or (spliced bytes at new) i 0 ≡ get_or bytes i 0
+pub spliced_after : (bytes : List ℕ) (at : ℕ) (new : List ℕ) (i : ℕ) → at + length new ≤ length bytes → at + length new ≤ i → get_or (spliced bytes at new) i 0 ≡ get_or bytes i 0
 spliced_after bytes at new i inside after =
     let place : at + length new + (i - (at + length new)) ≡ i = omega arith in
     get_or-append_right (take at bytes ++ new) (drop (at + length new) bytes) (at + length new) i 0 (length-front bytes at new inside) after
@@ -37,7 +37,7 @@ spliced_after bytes at new i inside after =
     ∙ ap (λ (k : ℕ). get_or bytes k 0) place
 
 -- one range after another
-spliced_then : (bytes : List ℕ) (at : ℕ) (one two : List ℕ) → at + length one ≤ length bytes → spliced (spliced bytes at one) (at + length one) two ≡ spliced bytes at (one ++ two)
+pub spliced_then : (bytes : List ℕ) (at : ℕ) (one two : List ℕ) → at + length one ≤ length bytes → spliced (spliced bytes at one) (at + length one) two ≡ spliced bytes at (one ++ two)
 spliced_then bytes at one two inside =
     let front : length (take at bytes ++ one) ≡ at + length one = length-front bytes at one inside in
     let rest = drop (at + length one) bytes in
@@ -53,10 +53,10 @@ spliced_then bytes at one two inside =
 -- ---- several records put over
 
 -- what a record of a sector leaves has its length
-length-left_of : (size : ℕ) (torn : Torn) → IsSectorOf size torn → length (take torn.len torn.left) ≡ 512
+pub length-left_of : (size : ℕ) (torn : Torn) → IsSectorOf size torn → length (take torn.len torn.left) ≡ 512
 length-left_of size torn sector = omega (arith, length-take torn.len torn.left, sector.len, sector.left)
 
-length-one : (size : ℕ) (bytes : List ℕ) (torn : Torn) → length bytes ≡ size → IsSectorOf size torn → length (spliced bytes torn.at (take torn.len torn.left)) ≡ size
+pub length-one : (size : ℕ) (bytes : List ℕ) (torn : Torn) → length bytes ≡ size → IsSectorOf size torn → length (spliced bytes torn.at (take torn.len torn.left)) ≡ size
 length-one size bytes torn whole sector =
     length-spliced bytes torn.at (take torn.len torn.left) (omega (arith, length-left_of size torn sector, sector.inside)) ∙ whole
 

@@ -14,30 +14,8 @@ use Rattle.board_core.proofs.Stops.{moved_weaker, made_then}
 use Rattle.board_core.proofs.Overlays.{overlaid-append, overlaid-range, sectors_of-range}
 use Rattle.board_core.proofs.DiskTorn.{left_disk_torn_run, left_disk_torn_more, left_disk_torn_from}
 use Rattle.board_core.proofs.FuseDiskLemmas.{settled_writes}
+use Rattle.board_core.proofs.WriteRecords.{made_within, over_range, same_records, sectors_of-write}
 use Rattle.board_core.proofs.ordered_writes.write_in_order.Goals as goal
-
-made_within : (a b : Counters) (k n : ℕ) → k ≤ n → MadeChanges a b k true → MadeChanges a b n true
-made_within a b k n within made = record {
-  later = made.later;
-  cause = made.cause;
-  no_fault = λ t. absurd (false≢true (sym t));
-  more_failed = made.more_failed;
-  none_failed = made.none_failed;
-  stop = moved_weaker a.stop b.stop k n true within made.stop;
-  settings = made.settings;
-}
-
--- a write stands in the disk as its records tell
-over_range : (lba : ℕ) (meant : List ℕ) (old new : DiskMedium) → length meant % 512 ≡ 0 → lba * 512 + length meant ≤ length old.bytes → new.bytes ≡ spliced old.bytes (lba * 512) meant → new.bytes ≡ overlaid old.bytes (write_records lba meant old)
-over_range lba meant old new whole inside bytes = bytes ∙ sym (overlaid-range (lba * 512) old.bytes (range old.bytes (lba * 512) (length meant)) meant meant whole refl inside)
-
--- the records of a write depend only on the bytes before it
-same_records : (lba : ℕ) (meant : List ℕ) (old old' : DiskMedium) → old.bytes ≡ old'.bytes → write_records lba meant old ≡ write_records lba meant old'
-same_records lba meant old old' bytes = ap (λ (b : List ℕ). torn_records (lba * 512) (range b (lba * 512) (length meant)) meant meant) bytes
-
--- they are those of sectors
-sectors_of : (lba size : ℕ) (meant : List ℕ) (medium : DiskMedium) → length meant % 512 ≡ 0 → lba * 512 + length meant ≤ size → All (IsSectorOf size) (write_records lba meant medium)
-sectors_of lba size meant medium whole inside = sectors_of-range size (lba * 512) (range medium.bytes (lba * 512) (length meant)) meant meant whole inside
 
 pub returns-in_default : goal.returns-in_default
 returns-in_default g c =
@@ -78,7 +56,7 @@ returns-in_default-write g c =
           let told' = subst IsTrue (sym one.told) told in
           let pending = one.writes told ∙ ap (λ (l : List Torn). l ++ first) (settled_writes old c.requires.settled (g.met.D.Disk.told_pending c.args.disk.now) told) in
           let run = left_disk_torn_run size first (write_records c.args.second c.args.two.now mid) old mid new full
-          (sectors_of c.args.first size c.args.one.now old c.requires.whole_one in_one) (sectors_of c.args.second size c.args.two.now mid c.requires.whole_two in_two)
+          (sectors_of-write c.args.first size c.args.one.now old c.requires.whole_one in_one) (sectors_of-write c.args.second size c.args.two.now mid c.requires.whole_two in_two)
           (over_range c.args.first c.args.one.now old mid c.requires.whole_one (omega arith) (one.bytes told)) (one.torn told) pending (meets.err told') in
           inl (subst (λ (l : List Torn). LeftDiskTorn [] (first ++ l) old new) (same_records c.args.second c.args.two.now mid (with_range c.args.first c.args.one.now old) (one.bytes told)) run);
     }
@@ -118,7 +96,7 @@ returns-in_default-flush g c =
           ∙ ap (λ (b : List ℕ). overlaid b (write_records c.args.second c.args.two.now mid)) (over_range c.args.first c.args.one.now old mid c.requires.whole_one (omega arith) (one.bytes told))
           ∙ sym (overlaid-append old.bytes first (write_records c.args.second c.args.two.now mid)) ∙ ap (λ (l : List Torn). overlaid old.bytes (first ++ l)) same in
           let run = left_disk_torn_run size (first ++ second) [] old both new full
-          (All-append (IsSectorOf size) first second (sectors_of c.args.first size c.args.one.now old c.requires.whole_one in_one) (sectors_of c.args.second size c.args.two.now (with_range c.args.first c.args.one.now old) c.requires.whole_two in_two))
+          (All-append (IsSectorOf size) first second (sectors_of-write c.args.first size c.args.one.now old c.requires.whole_one in_one) (sectors_of-write c.args.second size c.args.two.now (with_range c.args.first c.args.one.now old) c.requires.whole_two in_two))
           (All-nil (IsSectorOf size)) bytes (two.torn told' ∙ one.torn told) pending (meets.err told'') in
           inl (subst (λ (l : List Torn). LeftDiskTorn [] l old new) (append-nil (first ++ second)) run);
     }
@@ -181,7 +159,7 @@ returns-in_default-flush-2 g c =
           let full : length flushed.bytes ≡ size = g.met.D.Disk.told_size c.flush.new.self told''' ∙ ap (λ (n : ℕ). n * 512) (last.sectors ∙ two.sectors ∙ one.sectors) in
           let inside : c.args.third * 512 + length c.args.three.now ≤ size = omega (arith, c.requires.inside_three, c.requires.whole_three) in
           let pending : mid.writes ≡ third = three.writes told''' ∙ ap (λ (l : List Torn). l ++ third) (last.ok told'').writes in
-          let run = left_disk_torn_run size third [] flushed mid new full (sectors_of c.args.third size c.args.three.now flushed c.requires.whole_three inside) (All-nil (IsSectorOf size))
+          let run = left_disk_torn_run size third [] flushed mid new full (sectors_of-write c.args.third size c.args.three.now flushed c.requires.whole_three inside) (All-nil (IsSectorOf size))
           (over_range c.args.third c.args.three.now flushed mid c.requires.whole_three (omega arith) (three.bytes told''')) (three.torn told''') pending (meets.err (subst IsTrue (sym three.told) told''')) in
           let left_torn = subst (λ (l : List Torn). LeftDiskTorn [] l flushed new) (append-nil third) run in
           inr (subst (λ (l : List Torn). LeftDiskTorn [] l after new) (same_records c.args.third c.args.three.now flushed after bytes) (left_disk_torn_from [] third flushed after new (sym bytes) (sym torn) left_torn));

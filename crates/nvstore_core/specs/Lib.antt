@@ -1,0 +1,4 @@
+pub mod Pages
+pub mod Fair
+pub mod Saving
+pub mod Steps

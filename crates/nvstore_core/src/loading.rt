@@ -1,0 +1,83 @@
+// The state of the two pages.
+ghost use Rattle.std.specs.Prelude.{◌≡◌, ◌+◌, ◌*◌, ◌%◌, ◌≤◌, length, IfSome, unwrap_or, is_some};
+ghost use Rattle.record_core.specs.Nv.{blank_record};
+ghost use Rattle.board_core.specs.Flash.{FlashState};
+ghost use Rattle.nvstore_core.specs.Pages.{current_page, of_current, page_state, empty_state, page_generation, InRange};
+ghost use Rattle.nvstore_core.specs.Saving.{Loads};
+
+use crate::page::{CELLS, PAGE_SIZE, first_of_tail, generation_of, last_good_record};
+use crate::state::NvState;
+use board_core::{Failed, Flash};
+use record_core::Nv;
+
+// The number of the current page, from the generations of both.
+fn current_of(first: Option<u8>, second: Option<u8>) -> Option<u8>
+    requires { IfSome first (λ generation. generation ≤ 2) }
+    ensures { result ≡ current_page first second }
+{
+    match (first, second) {
+        (None, None) => None,
+        (Some(_), None) => Some(0),
+        (None, Some(_)) => Some(1),
+        (Some(first), Some(second)) => {
+            if second == (first + 1) % 3 {
+                Some(1)
+            } else {
+                Some(0)
+            }
+        }
+    }
+}
+
+// What a page stands for that is current.
+#[tactic(auto, unfolding(crate::specs::Pages::page_state))]
+fn state_of_page(number: u8, page: &[u8; 4096]) -> NvState
+    requires { number ≤ 1 }
+    ensures state { result ≡ page_state number page.now }
+    ensures within { InRange result }
+{
+    let record = last_good_record(page);
+    NvState {
+        page: Some(number),
+        generation: generation_of(page).unwrap_or(0),
+        next: first_of_tail(page),
+        nv: record.unwrap_or(Nv::blank()),
+        stands: record.is_some(),
+    }
+}
+
+// What two pages stand for.
+fn state_of(first: &[u8; 4096], second: &[u8; 4096]) -> NvState
+    ensures state { result ≡ of_current (current_page (page_generation first.now) (page_generation second.now)) empty_state (page_state 0 first.now) (page_state 1 second.now) }
+    ensures within { InRange result }
+{
+    match current_of(generation_of(first), generation_of(second)) {
+        None => NvState {
+            page: None,
+            generation: 0,
+            next: CELLS,
+            nv: Nv::blank(),
+            stands: false,
+        },
+        Some(0) => state_of_page(0, first),
+        Some(_) => state_of_page(1, second),
+    }
+}
+
+/// Reads the two pages of nvdata at `area`, a place in bytes, each with one call. It changes nothing, and any bytes are a
+/// state.
+///
+/// `Failed`: a call of the flash failed. The flash is as it was.
+#[tactic(auto, unfolding(crate::specs::Pages::state_in, crate::specs::Pages::page_in))]
+pub fn load<F: Flash>(flash: &mut F, area: u32) -> Result<NvState, Failed>
+    requires multiple { area % 4096 ≡ 0 }
+    requires inside { area + 8192 ≤ (F.state flash.old).medium.size }
+    ensures meets { Loads area (F.state flash.old) (F.state flash.new) result }
+{
+    let _size = flash.size();
+    let mut first = [0; PAGE_SIZE as usize];
+    let mut second = [0; PAGE_SIZE as usize];
+    flash.read(area, &mut first)?;
+    flash.read(area + PAGE_SIZE, &mut second)?;
+    Ok(state_of(&first, &second))
+}

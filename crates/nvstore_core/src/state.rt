@@ -1,0 +1,28 @@
+// What the store knows of its two pages.
+ghost use Rattle.std.specs.Prelude.{◌≡◌, ◌↔◌, IsTrue};
+
+use record_core::Nv;
+
+/// What the two pages of nvdata were found to hold, or what a save left in them.
+#[derive(Clone, Copy, Debug)]
+pub struct NvState {
+    /// The number of the current page, 0 or 1. `None`: no page counts.
+    pub page: Option<u8>,
+    /// The generation of the current page, 0 to 2. It is 0 where no page counts.
+    pub generation: u8,
+    /// The index of the first cell of the current page's erased tail. It is 255 where no cell is erased or no page counts.
+    pub next: u16,
+    /// The record that stands, or the blank one where none stands.
+    pub nv: Nv,
+    /// Whether a good record stands in the current page.
+    pub stands: bool,
+}
+
+impl NvState {
+    /// Whether a good record stands and it is this one.
+    pub fn holds(&self, nv: &Nv) -> bool
+        ensures { IsTrue result ↔ (IsTrue self.now.stands × (self.now.nv ≡ nv.now)) }
+    {
+        self.stands && self.nv.bytes() == nv.bytes()
+    }
+}

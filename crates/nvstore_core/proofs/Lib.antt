@@ -1,0 +1,2 @@
+-- The lemmas that answers of several functions cite.
+pub mod Cells

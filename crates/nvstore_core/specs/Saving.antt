@@ -30,19 +30,19 @@ pub record Loads {E : Type 0} (area : ℕ) (old new : FlashState) (result : Resu
   pub within : IfOk result (λ state. InRange state)
 
 -- The call to save a record, from the state of the pages.
-pub record Saves {E : Type 0} (area : ℕ) (state : NvState) (r : List ℕ) (old new : FlashState) (result : Result Unit E) : Type 0 where
-  pub counters : MadeChanges old.counters new.counters (calls_to_save state) (is_err result)
+pub record Saves {E : Type 0} (area : ℕ) (was : NvState) (r : List ℕ) (old new : FlashState) (result : Result Unit E) : Type 0 where
+  pub counters : MadeChanges old.counters new.counters (calls_to_save was) (is_err result)
   -- only a changing call that failed makes it fail
   pub broke : OnErr result (Rose old.counters.failed_changes new.counters.failed_changes)
   pub size : new.medium.size ≡ old.medium.size
   pub told : new.medium.told ≡ old.medium.told
   pub outside : IsTrue old.medium.told → SameButPages area old.medium.bytes new.medium.bytes
-  pub kept : IsTrue old.medium.told → KeepsWritten area state old.medium.bytes new.medium.bytes
+  pub kept : IsTrue old.medium.told → KeepsWritten area was old.medium.bytes new.medium.bytes
   -- one cell changed, or one page
-  pub bytes : IsTrue old.medium.told → OnOk result (new.medium.bytes ≡ bytes_with_record area state r old.medium.bytes)
+  pub bytes : IsTrue old.medium.told → OnOk result (new.medium.bytes ≡ bytes_with_record area was r old.medium.bytes)
   pub torn : IsTrue old.medium.told → OnOk result (new.medium.torn ≡ old.medium.torn)
   -- the record stands
   pub stored : IsTrue old.medium.told → OnOk result (record_in area new.medium.bytes ≡ Some r)
   -- so that saves follow one another without a load
-  pub state : IsTrue old.medium.told → OnOk result (IsStateOf area new.medium.bytes (state_with_record state r))
+  pub state : IsTrue old.medium.told → OnOk result (IsStateOf area new.medium.bytes (state_with_record was r))
   pub failed : OnErr result (FailsToStore area r old.medium new.medium)

@@ -1,5 +1,5 @@
 // A record is stored: in the next cell of the current page, or else in a fresh page.
-ghost use Rattle.std.specs.Prelude.{◌≡◌, ◌+◌, ◌*◌, ◌%◌, ◌≤◌, ◌<◌, IsTrue, OnOk};
+ghost use Rattle.std.specs.Prelude.{◌≡◌, ◌+◌, ◌*◌, ◌%◌, ◌≤◌, ◌<◌, IsTrue, OnOk, OnErr};
 ghost use Rattle.board_core.specs.Flash.{FlashState};
 ghost use Rattle.nvstore_core.specs.Pages.{IsStateOf, InRange, has_room, other_page, next_generation, state_with_record};
 ghost use Rattle.nvstore_core.specs.Saving.{Saves};

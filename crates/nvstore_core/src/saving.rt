@@ -1,5 +1,6 @@
 // A record is stored: in the next cell of the current page, or else in a fresh page.
 ghost use Rattle.std.specs.Prelude.{◌≡◌, ◌+◌, ◌*◌, ◌%◌, ◌≤◌, ◌<◌, IsTrue, OnOk, OnErr};
+ghost use Rattle.record_core.specs.Nv.{IsGoodRecord};
 ghost use Rattle.board_core.specs.Flash.{FlashState};
 ghost use Rattle.nvstore_core.specs.Pages.{IsStateOf, InRange, has_room, other_page, next_generation, state_with_record};
 ghost use Rattle.nvstore_core.specs.Saving.{Saves};
@@ -89,20 +90,34 @@ pub fn save<F: Flash>(flash: &mut F, area: u32, state: &mut NvState, nv: &Nv) ->
     ensures unchanged { OnErr result (state.new ≡ state.old) }
     ensures within { InRange state.new }
 {
-    let bytes = nv.bytes();
-    let _size = flash.size();
-    match state.page {
-        Some(page) if state.next < CELLS => {
-            let cell = area + PAGE_SIZE * page as u32 + (CELL_SIZE + CELL_SIZE * state.next as u32);
-            flash.program(cell, &bytes)?;
-        }
-        _ => {
-            let page = area / PAGE_SIZE + state.other_page() as u32;
-            write_page(flash, page, state.next_generation(), &bytes)?;
-        }
-    }
+    write_record(flash, area, state, &nv.bytes())?;
     *state = state.with_record(nv);
     Ok(())
+}
+
+// Programs the next cell of the current page, or else writes the other page.
+fn write_record<F: Flash>(
+    flash: &mut F,
+    area: u32,
+    state: &NvState,
+    bytes: &[u8; 16],
+) -> Result<(), Failed>
+    requires multiple { area % 4096 ≡ 0 }
+    requires inside { area + 8192 ≤ (F.state flash.old).medium.size }
+    requires state { IsTrue (F.state flash.old).medium.told → IsStateOf area (F.state flash.old).medium.bytes state.now }
+    requires within { InRange state.now }
+    requires good { IsGoodRecord bytes.now }
+    ensures meets { Saves area state.now bytes.now (F.state flash.old) (F.state flash.new) result }
+{
+    let _size = flash.size();
+    if state.has_room() {
+        let page = state.page.unwrap_or(0) as u32;
+        let cell = CELL_SIZE + CELL_SIZE * state.next as u32;
+        flash.program(area + PAGE_SIZE * page + cell, bytes)
+    } else {
+        let page = area / PAGE_SIZE + state.other_page() as u32;
+        write_page(flash, page, state.next_generation(), bytes)
+    }
 }
 
 // Erases the page of this number in the flash, programs its cell 0, and last its head, which makes the page count.

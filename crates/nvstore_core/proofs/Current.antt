@@ -1,0 +1,133 @@
+-- Which page is current, after one of them changed.
+use Rattle.std.proofs.Common.{◌≡◌, ◌⊎◌, ℕ, zero, suc, ◌+◌, ◌-◌, ◌*◌, ◌<◌, ◌≤◌, Bool, true, false, cond, List, take, Option, Some, None, sym, ap, ◌∙◌, refl, arith, inl, inr}
+use Rattle.std.specs.Prelude.{◌%◌, ◌==◌, if◌then◌else◌}
+use Rattle.std.proofs.lemmas.Bool.{cond-true, cond-false, cases_lt, eq-eqb}
+use Rattle.nvstore_core.specs.declared.state.NvState.{NvState}
+use Rattle.board_core.specs.Flash.{range}
+use Rattle.nvstore_core.specs.Pages.{head_of, head_generation, page_generation, cell_of, current_page, of_current, page_in, generation_in, current_in, page_record, page_state, empty_state, record_in, state_in}
+use Rattle.nvstore_core.specs.Saving.{SameBut}
+use Rattle.nvstore_core.proofs.Frames.{range-range, range_before, range_behind}
+use Rattle.std.proofs.lemmas.List.{take-take}
+
+-- ---- from the two generations alone
+
+first_stays : (first second : Option ℕ) → current_page first second ≡ Some 0 → current_page first None ≡ Some 0
+first_stays None None is = is
+first_stays None (Some h) is = absurd (cc)
+first_stays (Some g) second is = refl
+
+second_stays : (first second : Option ℕ) → current_page first second ≡ Some 1 → current_page None second ≡ Some 1
+second_stays None second is = is
+second_stays (Some g) None is = absurd (cc)
+second_stays (Some g) (Some h) is = refl
+
+chosen_some : (later : Bool) → if◌then◌else◌ {A = Option ℕ} later (Some 1) (Some 0) ≡ None → ⊥
+chosen_some true is = cc
+chosen_some false is = cc
+
+both_none : (first second : Option ℕ) → current_page first second ≡ None → (first ≡ None) × (second ≡ None)
+both_none None None is = (refl, refl)
+both_none None (Some h) is = absurd (cc)
+both_none (Some g) None is = absurd (cc)
+both_none (Some g) (Some h) is = absurd (chosen_some (h == (g + 1) % 3) is)
+
+second_next : (g : ℕ) → current_page (Some g) (Some ((g + 1) % 3)) ≡ Some 1
+second_next g = cond-true _ _ _ (eq-eqb ((g + 1) % 3) ((g + 1) % 3) refl)
+
+first_next : (g : ℕ) → g ≤ 2 → current_page (Some ((g + 1) % 3)) (Some g) ≡ Some 0
+first_next zero few = refl
+first_next (suc zero) few = refl
+first_next (suc (suc zero)) few = refl
+first_next (suc (suc (suc g))) few = absurd (omega arith)
+
+chosen_page : (later : Bool) (p q : List ℕ) → (of_current (if later then Some 1 else Some 0) empty_state (page_state 0 p) (page_state 1 q)).page ≡ (if later then Some 1 else Some 0)
+unfolding page_state
+chosen_page true p q = refl
+chosen_page false p q = refl
+
+page_of_current : (first second : Option ℕ) (p q : List ℕ) → (of_current (current_page first second) empty_state (page_state 0 p) (page_state 1 q)).page ≡ current_page first second
+unfolding page_state
+page_of_current None None p q = refl
+page_of_current (Some g) None p q = refl
+page_of_current None (Some h) p q = refl
+page_of_current (Some g) (Some h) p q = chosen_page (h == (g + 1) % 3) p q
+
+-- ---- the pages of an area
+
+pub state_page : (area : ℕ) (bytes : List ℕ) → (state_in area bytes).page ≡ current_in area bytes
+unfolding state_in
+state_page area bytes = page_of_current (generation_in area 0 bytes) (generation_in area 1 bytes) (page_in area 0 bytes) (page_in area 1 bytes)
+
+pub record_current : (area page : ℕ) (bytes : List ℕ) → page ≤ 1 → current_in area bytes ≡ Some page → record_in area bytes ≡ page_record (page_in area page bytes)
+unfolding record_in
+record_current area zero bytes within is = ap (λ (c : Option ℕ). of_current c None (page_record (page_in area 0 bytes)) (page_record (page_in area 1 bytes))) is
+record_current area (suc zero) bytes within is = ap (λ (c : Option ℕ). of_current c None (page_record (page_in area 0 bytes)) (page_record (page_in area 1 bytes))) is
+record_current area (suc (suc page)) bytes within is = absurd (omega arith)
+
+pub record_none : (area : ℕ) (bytes : List ℕ) → current_in area bytes ≡ None → record_in area bytes ≡ None
+unfolding record_in
+record_none area bytes is = ap (λ (c : Option ℕ). of_current c None (page_record (page_in area 0 bytes)) (page_record (page_in area 1 bytes))) is
+
+pub state_current : (area page : ℕ) (bytes : List ℕ) → page ≤ 1 → current_in area bytes ≡ Some page → state_in area bytes ≡ page_state page (page_in area page bytes)
+unfolding state_in
+state_current area zero bytes within is = ap (λ (c : Option ℕ). of_current c empty_state (page_state 0 (page_in area 0 bytes)) (page_state 1 (page_in area 1 bytes))) is
+state_current area (suc zero) bytes within is = ap (λ (c : Option ℕ). of_current c empty_state (page_state 0 (page_in area 0 bytes)) (page_state 1 (page_in area 1 bytes))) is
+state_current area (suc (suc page)) bytes within is = absurd (omega arith)
+
+-- a page stays current where the other one keeps its generation, or counts no more
+pub current_stays : (area page other : ℕ) (old new : List ℕ) → page + other ≡ 1 → current_in area old ≡ Some page → generation_in area page new ≡ generation_in area page old
+    → (generation_in area other new ≡ generation_in area other old) ⊎ (generation_in area other new ≡ None) → current_in area new ≡ Some page
+current_stays area zero zero old new two is same lost = absurd (omega arith)
+current_stays area zero (suc zero) old new two is same (inl kept) =
+    ap (λ (c : Option ℕ). current_page c (generation_in area 1 new)) same ∙ ap (current_page (generation_in area 0 old)) kept ∙ is
+current_stays area zero (suc zero) old new two is same (inr none) =
+    ap (λ (c : Option ℕ). current_page c (generation_in area 1 new)) same ∙ ap (current_page (generation_in area 0 old)) none ∙ first_stays (generation_in area 0 old) (generation_in area 1 old) is
+current_stays area zero (suc (suc other)) old new two is same lost = absurd (omega arith)
+current_stays area (suc zero) zero old new two is same (inl kept) =
+    ap (λ (c : Option ℕ). current_page c (generation_in area 1 new)) kept ∙ ap (current_page (generation_in area 0 old)) same ∙ is
+current_stays area (suc zero) zero old new two is same (inr none) =
+    ap (λ (c : Option ℕ). current_page c (generation_in area 1 new)) none ∙ ap (current_page None) same ∙ second_stays (generation_in area 0 old) (generation_in area 1 old) is
+current_stays area (suc zero) (suc other) old new two is same lost = absurd (omega arith)
+current_stays area (suc (suc page)) other old new two is same lost = absurd (omega arith)
+
+-- the other page is current once it has the next generation
+pub current_next : (area page other g : ℕ) (new : List ℕ) → page + other ≡ 1 → g ≤ 2 → generation_in area page new ≡ Some g → generation_in area other new ≡ Some ((g + 1) % 3)
+    → current_in area new ≡ Some other
+current_next area zero zero g new two few is next = absurd (omega arith)
+current_next area zero (suc zero) g new two few is next = ap (λ (c : Option ℕ). current_page c (generation_in area 1 new)) is ∙ ap (current_page (Some g)) next ∙ second_next g
+current_next area zero (suc (suc other)) g new two few is next = absurd (omega arith)
+current_next area (suc zero) zero g new two few is next = ap (λ (c : Option ℕ). current_page c (generation_in area 1 new)) next ∙ ap (current_page (Some ((g + 1) % 3))) is ∙ first_next g few
+current_next area (suc zero) (suc other) g new two few is next = absurd (omega arith)
+current_next area (suc (suc page)) other g new two few is next = absurd (omega arith)
+
+-- where no page counts
+pub none_stays : (area : ℕ) (old new : List ℕ) → current_in area old ≡ None → generation_in area 1 new ≡ generation_in area 1 old
+    → (generation_in area 0 new ≡ generation_in area 0 old) ⊎ (generation_in area 0 new ≡ None) → current_in area new ≡ None
+none_stays area old new is same lost =
+    let none = both_none (generation_in area 0 old) (generation_in area 1 old) is in
+    let first : generation_in area 0 new ≡ None = elim lost [ | inl kept ↦ kept ∙ none.0 | inr gone ↦ gone ] in
+    ap (λ (c : Option ℕ). current_page c (generation_in area 1 new)) first ∙ ap (current_page None) (same ∙ none.1)
+
+pub none_next : (area g : ℕ) (old new : List ℕ) → current_in area old ≡ None → generation_in area 1 new ≡ generation_in area 1 old → generation_in area 0 new ≡ Some g → current_in area new ≡ Some 0
+none_next area g old new is same next =
+    let none = both_none (generation_in area 0 old) (generation_in area 1 old) is in
+    ap (λ (c : Option ℕ). current_page c (generation_in area 1 new)) next ∙ ap (current_page (Some g)) (same ∙ none.1)
+
+-- ---- pages, heads and cells as ranges of the flash
+
+pub head_in : (area page : ℕ) (bytes : List ℕ) → take 16 (page_in area page bytes) ≡ range bytes (area + 4096 * page) 16
+unfolding page_in
+head_in area page bytes = range-range bytes (area + 4096 * page) 4096 0 16 (omega arith) ∙ (let at : (area + 4096 * page) + 0 ≡ area + 4096 * page = omega arith in ap (λ (k : ℕ). range bytes k 16) at)
+
+pub cell_in : (area page : ℕ) (bytes : List ℕ) (cell : ℕ) → cell < 255 → cell_of (page_in area page bytes) cell ≡ range bytes (area + 4096 * page + (16 + 16 * cell)) 16
+unfolding page_in
+cell_in area page bytes cell below = range-range bytes (area + 4096 * page) 4096 (16 + 16 * cell) 16 (omega arith)
+
+-- a page stays where the other one changed
+pub page_stays : (area page other : ℕ) (old new : List ℕ) → page + other ≡ 1 → SameBut (area + 4096 * other) 4096 old new → page_in area page new ≡ page_in area page old
+unfolding page_in
+page_stays area page other old new two same =
+    elim (cases_lt page other) [
+      | inl lower ↦ range_before (area + 4096 * other) 4096 (area + 4096 * page) 4096 old new (omega arith) same
+      | inr higher ↦ range_behind (area + 4096 * other) 4096 (area + 4096 * page) 4096 old new (omega arith) same
+    ]

@@ -1,6 +1,6 @@
 -- Which page is current, after one of them changed.
 use Rattle.std.proofs.Common.{◌≡◌, ◌⊎◌, ℕ, zero, suc, ◌+◌, ◌-◌, ◌*◌, ◌<◌, ◌≤◌, Bool, true, false, cond, List, take, Option, Some, None, sym, ap, ◌∙◌, refl, arith, inl, inr}
-use Rattle.std.specs.Prelude.{◌%◌, ◌==◌, if◌then◌else◌}
+use Rattle.std.specs.Prelude.{◌%◌, ◌==◌, if◌then◌else◌, unwrap_or}
 use Rattle.std.proofs.lemmas.Bool.{cond-true, cond-false, cases_lt, eq-eqb}
 use Rattle.nvstore_core.specs.declared.state.NvState.{NvState}
 use Rattle.board_core.specs.Flash.{range}
@@ -20,6 +20,16 @@ second_stays : (first second : Option ℕ) → current_page first second ≡ Som
 second_stays None second is = is
 second_stays (Some g) None is = absurd (cc)
 second_stays (Some g) (Some h) is = refl
+
+first_counts : (first second : Option ℕ) → current_page first second ≡ Some 0 → first ≡ Some (unwrap_or first 0)
+first_counts None None is = absurd (cc)
+first_counts None (Some h) is = absurd (cc)
+first_counts (Some g) second is = refl
+
+second_counts : (first second : Option ℕ) → current_page first second ≡ Some 1 → second ≡ Some (unwrap_or second 0)
+second_counts None None is = absurd (cc)
+second_counts (Some g) None is = absurd (cc)
+second_counts first (Some h) is = refl
 
 chosen_some : (later : Bool) → if◌then◌else◌ {A = Option ℕ} later (Some 1) (Some 0) ≡ None → ⊥
 chosen_some true is = cc
@@ -73,6 +83,12 @@ unfolding state_in
 state_current area zero bytes within is = ap (λ (c : Option ℕ). of_current c empty_state (page_state 0 (page_in area 0 bytes)) (page_state 1 (page_in area 1 bytes))) is
 state_current area (suc zero) bytes within is = ap (λ (c : Option ℕ). of_current c empty_state (page_state 0 (page_in area 0 bytes)) (page_state 1 (page_in area 1 bytes))) is
 state_current area (suc (suc page)) bytes within is = absurd (omega arith)
+
+-- the current page counts
+pub current_counts : (area page : ℕ) (bytes : List ℕ) → page ≤ 1 → current_in area bytes ≡ Some page → generation_in area page bytes ≡ Some (unwrap_or (generation_in area page bytes) 0)
+current_counts area zero bytes within is = first_counts (generation_in area 0 bytes) (generation_in area 1 bytes) is
+current_counts area (suc zero) bytes within is = second_counts (generation_in area 0 bytes) (generation_in area 1 bytes) is
+current_counts area (suc (suc page)) bytes within is = absurd (omega arith)
 
 -- a page stays current where the other one keeps its generation, or counts no more
 pub current_stays : (area page other : ℕ) (old new : List ℕ) → page + other ≡ 1 → current_in area old ≡ Some page → generation_in area page new ≡ generation_in area page old

@@ -86,7 +86,7 @@ pub front_of_fresh : (generation : ℕ) (r : List ℕ) → take 16 (fresh_page g
 unfolding fresh_page
 front_of_fresh generation r = ap (take 16) (append_assoc (head_of generation) r (replicate 4064 255)) ∙ take_at (head_of generation) (r ++ replicate 4064 255) 16 (length-head_of generation)
 
-front_of_headless : (r : List ℕ) → take 16 (headless_page r) ≡ replicate 16 255
+pub front_of_headless : (r : List ℕ) → take 16 (headless_page r) ≡ replicate 16 255
 unfolding headless_page
 front_of_headless r = ap (take 16) (append_assoc (replicate 16 255) r (replicate 4064 255)) ∙ take_at (replicate 16 255) (r ++ replicate 4064 255) 16 (length-replicate {A = ℕ} 16 255)
 

@@ -7,3 +7,4 @@ pub mod Fresh
 pub mod Pieces
 pub mod Answering
 pub mod Appending
+pub mod Switching

@@ -1,22 +1,21 @@
 -- A record that goes into the next cell of the current page.
-use Rattle.std.proofs.Common.{◌≡◌, ◌⊎◌, ℕ, zero, suc, ◌+◌, ◌-◌, ◌*◌, ◌<◌, ◌≤◌, Bool, true, false, List, length, take, Option, Some, None, Result, Ok, Err, refl, sym, ap, subst, ◌∙◌, arith, inl, inr}
-use Rattle.std.specs.Prelude.{◌&&◌, IsTrue, IsSome, IfSome, is_some, nat_lt, unwrap_or, OnOk, OnErr, is_err}
-use Rattle.std.proofs.lemmas.Bool.{and_parts, cases_lt, cond-true}
+use Rattle.std.proofs.Common.{◌≡◌, ◌⊎◌, ℕ, ◌+◌, ◌-◌, ◌*◌, ◌<◌, ◌≤◌, true, false, List, length, take, Option, Some, Result, Ok, Err, sym, ap, subst, ◌∙◌, arith, inl, inr}
+use Rattle.std.specs.Prelude.{IsTrue, IfSome, is_some, unwrap_or, OnErr, is_err}
+use Rattle.std.proofs.lemmas.Bool.{cases_lt, cond-true}
 use Rattle.std.proofs.lemmas.List.{take_all}
 use Rattle.record_core.specs.Nv.{is_good_record, blank_record}
-use Rattle.board_core.specs.Counters.{Rose, MadeChanges}
-use Rattle.board_core.specs.Torn.{Grown}
+use Rattle.board_core.specs.Counters.{MadeChanges}
 use Rattle.board_core.specs.Flash.{FlashMedium, FlashState, Programs, Programmed, LeftTorn, IsErased, range, spliced}
 use Rattle.nvstore_core.specs.declared.state.NvState.{NvState}
-use Rattle.nvstore_core.specs.Pages.{head_generation, cell_of, is_erased, page_record, next_cell, page_in, generation_in, current_in, record_in, state_in, page_state, IsStateOf, InRange, has_room, calls_to_save, state_with_record, bytes_with_record}
-use Rattle.nvstore_core.specs.Saving.{SameBut, SameButPages, KeepsWritten, Saves}
-use Rattle.nvstore_core.specs.Fair.{IsNothing, IsFairFlash, FailsToStore}
+use Rattle.nvstore_core.specs.Pages.{head_generation, cell_of, is_erased, page_record, next_cell, page_in, generation_in, current_in, record_in, page_state, IsStateOf, InRange, has_room, state_with_record, bytes_with_record}
+use Rattle.nvstore_core.specs.Saving.{SameBut, Saves}
+use Rattle.nvstore_core.specs.Fair.{IsFairFlash, FailsToStore}
 use Rattle.nvstore_core.proofs.Frames.{same_but_spliced, same_but_wider, range_before, range_behind, range-spliced_same}
 use Rattle.nvstore_core.proofs.Records.{length-good, erased_is_no_record, behind_next, page_record-like, page_record-last, next_cell-last}
 use Rattle.nvstore_core.proofs.Current.{state_page, record_current, state_current, current_stays, head_in, cell_in, page_stays}
 use Rattle.nvstore_core.proofs.Fresh.{programmed_exact}
 use Rattle.nvstore_core.proofs.Pieces.{left_frame, piece_left}
-use Rattle.nvstore_core.proofs.Answering.{on_ok_map, on_err_map, on_err_of, same_state, room_parts, erased_of_test}
+use Rattle.nvstore_core.proofs.Answering.{on_ok_map, on_err_of, same_state, room_parts, erased_of_test}
 
 -- ---- the pages after the next cell changed
 

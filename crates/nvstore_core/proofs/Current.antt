@@ -1,13 +1,14 @@
 -- Which page is current, after one of them changed.
-use Rattle.std.proofs.Common.{◌≡◌, ◌⊎◌, ℕ, zero, suc, ◌+◌, ◌-◌, ◌*◌, ◌<◌, ◌≤◌, Bool, true, false, cond, List, take, Option, Some, None, sym, ap, ◌∙◌, refl, arith, inl, inr}
-use Rattle.std.specs.Prelude.{◌%◌, ◌==◌, if◌then◌else◌, unwrap_or}
-use Rattle.std.proofs.lemmas.Bool.{cond-true, cond-false, cases_lt, eq-eqb}
+use Rattle.std.proofs.Common.{◌≡◌, ◌⊎◌, ℕ, zero, suc, ◌+◌, ◌*◌, ◌<◌, ◌≤◌, Bool, true, false, List, take, Option, Some, None, sym, ap, ◌∙◌, refl, arith, inl, inr}
+use Rattle.std.specs.Prelude.{◌%◌, ◌==◌, if◌then◌else◌, unwrap_or, is_some}
+use Rattle.record_core.specs.Nv.{blank_record}
+use Rattle.std.proofs.lemmas.Bool.{cond-true, cases_lt, eq-eqb}
 use Rattle.nvstore_core.specs.declared.state.NvState.{NvState}
 use Rattle.board_core.specs.Flash.{range}
-use Rattle.nvstore_core.specs.Pages.{head_of, head_generation, page_generation, cell_of, current_page, of_current, page_in, generation_in, current_in, page_record, page_state, empty_state, record_in, state_in}
+use Rattle.nvstore_core.specs.Pages.{cell_of, current_page, of_current, page_in, generation_in, current_in, page_record, page_state, empty_state, record_in, state_in}
 use Rattle.nvstore_core.specs.Saving.{SameBut}
 use Rattle.nvstore_core.proofs.Frames.{range-range, range_before, range_behind}
-use Rattle.std.proofs.lemmas.List.{take-take}
+use Rattle.nvstore_core.proofs.Answering.{same_state}
 
 -- ---- from the two generations alone
 
@@ -62,11 +63,41 @@ page_of_current (Some g) None p q = refl
 page_of_current None (Some h) p q = refl
 page_of_current (Some g) (Some h) p q = chosen_page (h == (g + 1) % 3) p q
 
+-- a part of the state of the current page
+part_of_current : {A : Type 0} (part : NvState → A) (page : Option ℕ) (first second : NvState) → part (of_current page empty_state first second) ≡ of_current page (part empty_state) (part first) (part second)
+part_of_current part None first second = refl
+part_of_current part (Some zero) first second = refl
+part_of_current part (Some (suc page)) first second = refl
+
+nv_of_current : (page : Option ℕ) (first second : Option (List ℕ)) → unwrap_or (of_current page None first second) blank_record ≡ of_current page blank_record (unwrap_or first blank_record) (unwrap_or second blank_record)
+nv_of_current None first second = refl
+nv_of_current (Some zero) first second = refl
+nv_of_current (Some (suc page)) first second = refl
+
+stands_of_current : (page : Option ℕ) (first second : Option (List ℕ)) → is_some (of_current page None first second) ≡ of_current page false (is_some first) (is_some second)
+stands_of_current None first second = refl
+stands_of_current (Some zero) first second = refl
+stands_of_current (Some (suc page)) first second = refl
+
 -- ---- the pages of an area
 
 pub state_page : (area : ℕ) (bytes : List ℕ) → (state_in area bytes).page ≡ current_in area bytes
 unfolding state_in
-state_page area bytes = page_of_current (generation_in area 0 bytes) (generation_in area 1 bytes) (page_in area 0 bytes) (page_in area 1 bytes)
+state_page area bytes = refl
+
+-- the state is that of the page that is current
+pub state_pages : (area : ℕ) (bytes : List ℕ) → of_current (current_in area bytes) empty_state (page_state 0 (page_in area 0 bytes)) (page_state 1 (page_in area 1 bytes)) ≡ state_in area bytes
+unfolding state_in page_state record_in
+state_pages area bytes =
+    let page = current_in area bytes in
+    let p = page_in area 0 bytes in
+    let q = page_in area 1 bytes in
+    same_state (of_current page empty_state (page_state 0 p) (page_state 1 q)) (state_in area bytes)
+    (page_of_current (generation_in area 0 bytes) (generation_in area 1 bytes) p q)
+    (part_of_current (λ (s : NvState). s.generation) page (page_state 0 p) (page_state 1 q))
+    (part_of_current (λ (s : NvState). s.next) page (page_state 0 p) (page_state 1 q))
+    (part_of_current (λ (s : NvState). s.nv) page (page_state 0 p) (page_state 1 q) ∙ sym (nv_of_current page (page_record p) (page_record q)))
+    (part_of_current (λ (s : NvState). s.stands) page (page_state 0 p) (page_state 1 q) ∙ sym (stands_of_current page (page_record p) (page_record q)))
 
 pub record_current : (area page : ℕ) (bytes : List ℕ) → page ≤ 1 → current_in area bytes ≡ Some page → record_in area bytes ≡ page_record (page_in area page bytes)
 unfolding record_in
@@ -79,9 +110,10 @@ unfolding record_in
 record_none area bytes is = ap (λ (c : Option ℕ). of_current c None (page_record (page_in area 0 bytes)) (page_record (page_in area 1 bytes))) is
 
 pub state_current : (area page : ℕ) (bytes : List ℕ) → page ≤ 1 → current_in area bytes ≡ Some page → state_in area bytes ≡ page_state page (page_in area page bytes)
-unfolding state_in
-state_current area zero bytes within is = ap (λ (c : Option ℕ). of_current c empty_state (page_state 0 (page_in area 0 bytes)) (page_state 1 (page_in area 1 bytes))) is
-state_current area (suc zero) bytes within is = ap (λ (c : Option ℕ). of_current c empty_state (page_state 0 (page_in area 0 bytes)) (page_state 1 (page_in area 1 bytes))) is
+state_current area zero bytes within is =
+    sym (state_pages area bytes) ∙ ap (λ (c : Option ℕ). of_current c empty_state (page_state 0 (page_in area 0 bytes)) (page_state 1 (page_in area 1 bytes))) is
+state_current area (suc zero) bytes within is =
+    sym (state_pages area bytes) ∙ ap (λ (c : Option ℕ). of_current c empty_state (page_state 0 (page_in area 0 bytes)) (page_state 1 (page_in area 1 bytes))) is
 state_current area (suc (suc page)) bytes within is = absurd (omega arith)
 
 -- the current page counts

@@ -1,14 +1,13 @@
 -- A fresh page: what an erase and two programs make of a page, and what stands in it.
-use Rattle.std.proofs.Common.{◌≡◌, ℕ, zero, suc, ◌+◌, ◌-◌, ◌*◌, ◌<◌, ◌≤◌, true, List, [], ◌∷◌, ◌++◌, length, take, drop, Option, Some, None, refl, sym, ap, subst, ◌∙◌, arith, append_assoc, length-append}
+use Rattle.std.proofs.Common.{◌≡◌, ℕ, zero, suc, ◌+◌, ◌-◌, ◌*◌, ◌<◌, ◌≤◌, true, List, ◌++◌, length, take, drop, Some, None, refl, sym, ap, subst, ◌∙◌, arith, append_assoc, length-append}
 use Rattle.std.specs.Prelude.{replicate}
 use Rattle.std.specs.Str.{bytes_eq}
 use Rattle.std.proofs.lemmas.Bool.{cond-true}
 use Rattle.std.proofs.lemmas.Slice.Eq.{bytes_eq-Decides}
 use Rattle.std.proofs.lemmas.List.{length-replicate, take-replicate, drop-replicate, drop_at, take_at, drop-drop}
 use Rattle.std.proofs.lemmas.List.Elements.{All-replicate}
-use Rattle.board_core.specs.Flash.{FlashMedium, Programmed, Erased, range, spliced, IsErased, erased_page}
+use Rattle.board_core.specs.Flash.{FlashMedium, Programmed, range, spliced, IsErased, erased_page}
 use Rattle.board_core.proofs.TornRange.{length-erased_page}
-use Rattle.board_core.proofs.Overlays.{length-spliced}
 use Rattle.record_core.specs.Nv.{is_good_record}
 use Rattle.nvstore_core.specs.Pages.{head_of, head_generation, cell_of, is_erased, page_record, next_cell, fresh_page}
 use Rattle.nvstore_core.specs.Steps.{headless_page}

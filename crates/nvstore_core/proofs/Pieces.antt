@@ -1,17 +1,17 @@
 -- What a failed change leaves in the first 16 bytes of its range, where torn bytes do not pass their checks.
-use Rattle.std.proofs.Common.{◌≡◌, ◌⊎◌, ℕ, zero, suc, ◌+◌, ◌-◌, ◌*◌, ◌<◌, ◌≤◌, min, List, [], ◌∷◌, ◌++◌, length, take, drop, refl, sym, ap, subst, ◌∙◌, arith, inl, inr, append_assoc, length-append, length-take, length-drop}
+use Rattle.std.proofs.Common.{◌≡◌, ◌⊎◌, ℕ, ◌+◌, ◌-◌, ◌*◌, ◌<◌, ◌≤◌, min, List, [], ◌∷◌, ◌++◌, length, take, drop, refl, sym, ap, subst, ◌∙◌, arith, inl, inr, append_assoc, length-take, length-drop}
 use Rattle.std.specs.Prelude.{All, replicate}
 use Rattle.std.proofs.lemmas.Bool.{cases_lt}
-use Rattle.std.proofs.lemmas.List.{take_at, drop_at, drop-drop, take-take, take_all, take-append-le, take-append-drop, length-take-le}
+use Rattle.std.proofs.lemmas.List.{drop_at, drop-drop, take-take, take-append-le, take-append-drop, length-take-le}
 use Rattle.std.proofs.lemmas.List.Elements.{All-head}
 use Rattle.board_core.specs.declared.torn.Torn.{Torn}
-use Rattle.board_core.specs.Torn.{Logs, added, torn_records, torn_piece, padded_piece}
+use Rattle.board_core.specs.Torn.{Logs, added, torn_piece, padded_piece}
 use Rattle.board_core.specs.Flash.{FlashMedium, LeftTorn, range, spliced}
 use Rattle.board_core.proofs.TornRecords.{torn_records-more}
 use Rattle.board_core.proofs.Overlays.{length-spliced}
 use Rattle.nvstore_core.specs.Saving.{SameBut}
 use Rattle.nvstore_core.specs.Fair.{IsFairAt, IsFairIn, IsNothing}
-use Rattle.nvstore_core.proofs.Frames.{same_but_spliced, same_but_wider, range-spliced_front}
+use Rattle.nvstore_core.proofs.Frames.{same_but_spliced, range-spliced_front}
 
 -- a failed change leaves all bytes outside its range
 pub left_frame : (at : ℕ) (meant : List ℕ) (old new : FlashMedium) → at ≤ length old.bytes → LeftTorn at meant old new → SameBut at (length meant) old.bytes new.bytes

@@ -1,6 +1,6 @@
 -- A record that goes into a fresh page: the other one, or page 0 where no page counts.
-use Rattle.std.proofs.Common.{◌≡◌, ◌⊎◌, ℕ, zero, suc, ◌+◌, ◌-◌, ◌*◌, ◌<◌, ◌≤◌, Bool, true, false, List, length, take, Option, Some, None, Result, Ok, Err, refl, sym, ap, subst, ◌∙◌, arith, inl, inr}
-use Rattle.std.specs.Prelude.{◌%◌, IsTrue, IfSome, is_some, unwrap_or, if◌then◌else◌, replicate, OnOk, OnErr, is_err}
+use Rattle.std.proofs.Common.{◌≡◌, ◌⊎◌, ℕ, ◌+◌, ◌-◌, ◌*◌, ◌<◌, ◌≤◌, Bool, true, false, List, length, take, Option, Some, None, Result, Ok, Err, refl, sym, ap, subst, ◌∙◌, arith, inl, inr}
+use Rattle.std.specs.Prelude.{◌%◌, IsTrue, IfSome, is_some, unwrap_or, if◌then◌else◌, replicate, OnErr, is_err}
 use Rattle.std.proofs.lemmas.Bool.{cases_lt, cond-false}
 use Rattle.std.proofs.lemmas.List.{take_all}
 use Rattle.record_core.specs.Nv.{is_good_record, blank_record}
@@ -10,9 +10,9 @@ use Rattle.board_core.specs.Flash.{FlashMedium, FlashState, LeftTorn, range, spl
 use Rattle.board_core.proofs.TornRange.{length-erased_page}
 use Rattle.board_core.proofs.Overlays.{length-spliced}
 use Rattle.nvstore_core.specs.declared.state.NvState.{NvState}
-use Rattle.nvstore_core.specs.Pages.{head_of, head_generation, cell_of, page_record, next_cell, page_in, generation_in, current_in, record_in, page_state, IsStateOf, InRange, has_room, other_page, next_generation, calls_to_save, state_with_record, fresh_page, bytes_with_record}
-use Rattle.nvstore_core.specs.Saving.{SameBut, SameButPages, KeepsWritten, Saves}
-use Rattle.nvstore_core.specs.Fair.{IsNothing, IsFairFlash, FailsToStore}
+use Rattle.nvstore_core.specs.Pages.{head_of, head_generation, cell_of, page_record, next_cell, page_in, generation_in, current_in, record_in, page_state, IsStateOf, InRange, has_room, other_page, next_generation, state_with_record, fresh_page, bytes_with_record}
+use Rattle.nvstore_core.specs.Saving.{SameBut, Saves}
+use Rattle.nvstore_core.specs.Fair.{IsFairFlash, FailsToStore}
 use Rattle.nvstore_core.specs.Steps.{headless_page, LeftAfter, LeavesPage, WritesPage}
 use Rattle.nvstore_core.proofs.Frames.{same_but_spliced, same_but_wider, same_but_then, range_before, range_behind, range-spliced_same, range-spliced_front}
 use Rattle.nvstore_core.proofs.Records.{length-good}

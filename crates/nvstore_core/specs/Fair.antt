@@ -1,5 +1,5 @@
 -- The premise that torn bytes of the pages do not pass their checks, and what a failed save leaves under it.
-use Rattle.std.specs.Prelude.{◌≡◌, ◌⊎◌, ℕ, ◌+◌, ◌*◌, ◌<◌, ◌≤◌, List, take, All, false, Option, Some, None, IsTrue}
+use Rattle.std.specs.Prelude.{◌≡◌, ◌⊎◌, ℕ, ◌+◌, ◌*◌, ◌<◌, ◌≤◌, List, take, All, false, Some, None, IsTrue}
 use Rattle.record_core.specs.Nv.{is_good_record}
 use Rattle.board_core.specs.declared.torn.Torn.{Torn}
 use Rattle.board_core.specs.Torn.{Grown, added}

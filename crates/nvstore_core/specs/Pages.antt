@@ -2,7 +2,7 @@
 -- bytes. Each cell takes one record. A page counts where its head is whole, one page that counts is current, and the good
 -- cell of highest index in it is the record that stands.
 -- Source: this store is this project's own; the record in a cell is vboot's.
-use Rattle.std.specs.Prelude.{◌≡◌, ◌⊎◌, ℕ, zero, suc, ◌+◌, ◌-◌, ◌*◌, ◌%◌, ◌≤◌, nat_lt, Bool, true, false, List, [], ◌∷◌, ◌++◌, take, replicate, reverse, codes, ◌==◌, ◌&&◌, if◌then◌else◌, Option, Some, None, is_some, IsSome, IfSome, unwrap_or}
+use Rattle.std.specs.Prelude.{◌≡◌, ℕ, zero, suc, ◌+◌, ◌-◌, ◌*◌, ◌%◌, ◌≤◌, nat_lt, Bool, true, false, List, [], ◌∷◌, ◌++◌, take, replicate, reverse, codes, ◌==◌, ◌&&◌, if◌then◌else◌, Option, Some, None, is_some, IsSome, IfSome, unwrap_or}
 use Rattle.std.specs.List.{find, list_all, suffix_len}
 use Rattle.std.specs.Str.{bytes_eq}
 use Rattle.byteorder.specs.Endian.{little_bytes}
@@ -115,7 +115,13 @@ page_state number page = record {
 
 -- the state of the two pages of an area
 unfoldable pub state_in : ℕ → List ℕ → NvState
-state_in area bytes = of_current (current_in area bytes) empty_state (page_state 0 (page_in area 0 bytes)) (page_state 1 (page_in area 1 bytes))
+state_in area bytes = record {
+  page = current_in area bytes;
+  generation = of_current (current_in area bytes) 0 (unwrap_or (generation_in area 0 bytes) 0) (unwrap_or (generation_in area 1 bytes) 0);
+  next = of_current (current_in area bytes) 255 (next_cell (page_in area 0 bytes)) (next_cell (page_in area 1 bytes));
+  nv = stored_record area bytes;
+  stands = is_some (record_in area bytes);
+}
 
 abbrev pub IsStateOf : ℕ → List ℕ → NvState → Type 0
 IsStateOf area bytes state = state ≡ state_in area bytes

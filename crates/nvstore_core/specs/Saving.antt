@@ -1,5 +1,5 @@
 -- What the calls of the store do to the flash.
-use Rattle.std.specs.Prelude.{◌≡◌, ℕ, ◌+◌, ◌*◌, List, take, drop, Option, Some, IsTrue, IfSome, Result, is_err, IfOk, OnOk, OnErr}
+use Rattle.std.specs.Prelude.{◌≡◌, ℕ, ◌+◌, ◌*◌, List, take, drop, Some, IsTrue, IfSome, Result, is_err, IfOk, OnOk, OnErr}
 use Rattle.board_core.specs.Counters.{Observed, MadeChanges, Rose}
 use Rattle.board_core.specs.Flash.{FlashState, range}
 use Rattle.nvstore_core.specs.declared.state.NvState.{NvState}

@@ -1,21 +1,23 @@
 -- Both pages were read whole.
 use Rattle.std.proofs.Common.{◌≡◌, ◌∙◌, ℕ, ◌+◌, ◌*◌, List, length, false, ap, sym, subst, arith}
-use Rattle.std.specs.Prelude.{IsTrue, is_err}
+use Rattle.std.specs.Prelude.{IsTrue}
 use Rattle.board_core.specs.Flash.{range, FlashMedium}
 use Rattle.board_core.proofs.Stops.{observed_then}
 use Rattle.board_core.proofs.TornRange.{filled_is}
 use Rattle.nvstore_core.specs.Pages.{page_generation, current_page, of_current, empty_state, page_state, page_in, state_in}
+use Rattle.nvstore_core.proofs.Current.{state_pages}
 use Rattle.nvstore_core.proofs.loading.load.Goals as goal
 
 both_read : (area : ℕ) (bytes first second : List ℕ) → first ≡ range bytes area 4096 → second ≡ range bytes (area + 4096) 4096
     → of_current (current_page (page_generation first) (page_generation second)) empty_state (page_state 0 first) (page_state 1 second) ≡ state_in area bytes
-unfolding state_in page_in
+unfolding page_in
 both_read area bytes first second one two =
     let pages = λ (p q : List ℕ). of_current (current_page (page_generation p) (page_generation q)) empty_state (page_state 0 p) (page_state 1 q) in
     let low : area ≡ area + 4096 * 0 = omega arith in
     let high : area + 4096 ≡ area + 4096 * 1 = omega arith in
     ap (λ (p : List ℕ). pages p second) (one ∙ ap (λ (k : ℕ). range bytes k 4096) low)
     ∙ ap (pages (range bytes (area + 4096 * 0) 4096)) (two ∙ ap (λ (k : ℕ). range bytes k 4096) high)
+    ∙ state_pages area bytes
 
 pub returns : goal.returns
 returns g c =

@@ -1,6 +1,6 @@
 use Rattle.std.proofs.Common.{◌≡◌, ◌-◌, ◌∙◌, sym, true, false, arith}
 use Rattle.nvstore_core.specs.Pages.{cell_of, is_erased, next_cell}
-use Rattle.nvstore_core.proofs.Cells.{tail_start-passed, tail_start-found, tail_start-none}
+use Rattle.nvstore_core.proofs.Cells.{tail_start-passed, tail_start-found}
 use Rattle.nvstore_core.proofs.page.first_of_tail.Goals as goal
 
 pub loop-next-preserved : goal.loop-next-preserved

@@ -1,7 +1,7 @@
 -- The erase and both programs were made.
-use Rattle.std.proofs.Common.{◌≡◌, ◌∙◌, ℕ, ◌+◌, ◌*◌, ◌≤◌, List, length, false, ap, sym, subst, arith, refl, inl, inr}
+use Rattle.std.proofs.Common.{◌≡◌, ◌∙◌, ℕ, ◌*◌, ◌≤◌, List, length, ap, sym, subst, arith, inr}
 use Rattle.std.specs.Prelude.{IsTrue, is_err}
-use Rattle.board_core.specs.Flash.{Programmed, LeftTorn, Erased, range, spliced, erased_page}
+use Rattle.board_core.specs.Flash.{Programmed, LeftTorn, spliced, erased_page}
 use Rattle.board_core.proofs.Stops.{made_then, rose_later}
 use Rattle.nvstore_core.specs.Pages.{head_of}
 use Rattle.nvstore_core.specs.Steps.{headless_page}

@@ -1,6 +1,6 @@
 -- A record goes into the next cell, or else into a fresh page.
 use Rattle.std.proofs.Common.{◌≡◌, ◌∙◌, ℕ, ◌+◌, ◌*◌, true, false, ap, sym, subst, arith}
-use Rattle.std.specs.Prelude.{◌/◌, ◌%◌, IsTrue, unwrap_or}
+use Rattle.std.specs.Prelude.{◌/◌, unwrap_or}
 use Rattle.nvstore_core.specs.Pages.{has_room, other_page, next_generation}
 use Rattle.nvstore_core.specs.Steps.{WritesPage}
 use Rattle.nvstore_core.proofs.Appending.{saves_by_program}

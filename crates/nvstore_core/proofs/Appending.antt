@@ -7,7 +7,7 @@ use Rattle.record_core.specs.Nv.{is_good_record, blank_record}
 use Rattle.board_core.specs.Counters.{MadeChanges}
 use Rattle.board_core.specs.Flash.{FlashMedium, FlashState, Programs, Programmed, LeftTorn, IsErased, range, spliced}
 use Rattle.nvstore_core.specs.declared.state.NvState.{NvState}
-use Rattle.nvstore_core.specs.Pages.{head_generation, cell_of, is_erased, page_record, next_cell, page_in, generation_in, current_in, record_in, page_state, IsStateOf, InRange, has_room, state_with_record, bytes_with_record}
+use Rattle.nvstore_core.specs.Pages.{head_generation, cell_of, is_erased, page_record, next_cell, page_in, generation_in, current_in, record_in, page_state, IsStateOf, InRange, has_room, state_with_record, bytes_with_record, calls_to_save}
 use Rattle.nvstore_core.specs.Saving.{SameBut, Saves}
 use Rattle.nvstore_core.specs.Fair.{IsFairFlash, FailsToStore}
 use Rattle.nvstore_core.proofs.Frames.{same_but_spliced, same_but_wider, range_before, range_behind, range-spliced_same}
@@ -55,11 +55,11 @@ append_lost area page cell old new within below is next same bad =
     elim (cases_lt k cell) [
       | inl before ↦ inl (other_cell area page cell k old new low (inl before) same)
       | inr from ↦ elim (cases_lt cell k) [
-          | inl after ↦ inl (other_cell area page cell k old new low (inr after) same)
-          | inr upto ↦
-              let here : cell ≡ k = omega arith in
-              inr (subst (λ (j : ℕ). (is_good_record (cell_of (page_in area page old) j) ≡ false) × (is_good_record (cell_of (page_in area page new) j) ≡ false)) here (was_bad, now_bad))
-        ]
+        | inl after ↦ inl (other_cell area page cell k old new low (inr after) same)
+        | inr upto ↦
+            let here : cell ≡ k = omega arith in
+            inr (subst (λ (j : ℕ). (is_good_record (cell_of (page_in area page old) j) ≡ false) × (is_good_record (cell_of (page_in area page new) j) ≡ false)) here (was_bad, now_bad))
+      ]
     ])
     ∙ sym (record_current area page old within is)
 
@@ -131,11 +131,11 @@ append_fails area page was r old new within below good at inside left fair =
     elim (piece_left area 512 (256 * page + 1 + was.next) place r old new (omega arith) (omega arith) (omega arith) (omega arith) left fair.pages) [
       | inl kept ↦ inl (append_lost area page was.next old.bytes new.bytes within below at.current at.next same (ap is_good_record kept ∙ was_bad))
       | inr more ↦ elim more [
-          | inl meant ↦
-              let whole : take 16 r ≡ r = take_all 16 r (omega arith) in
-              inr (append_record area page was.next r old.bytes new.bytes within below good at.current at.next same (meant ∙ whole))
-          | inr nothing ↦ inl (append_lost area page was.next old.bytes new.bytes within below at.current at.next same nothing.no_record)
-        ]
+        | inl meant ↦
+            let whole : take 16 r ≡ r = take_all 16 r (omega arith) in
+            inr (append_record area page was.next r old.bytes new.bytes within below good at.current at.next same (meant ∙ whole))
+        | inr nothing ↦ inl (append_lost area page was.next old.bytes new.bytes within below at.current at.next same nothing.no_record)
+      ]
     ]
 
 -- the next cell is erased
@@ -184,8 +184,9 @@ saves_by_program area at was r old new result room ranges good is state sized in
     let cell : range new.medium.bytes (cell_place area page was.next) 16 ≡ r =
     ap (λ (k : ℕ). range new.medium.bytes k 16) (sym place) ∙ ap (λ (b : List ℕ). range b at 16) (written told p) ∙ range-spliced_same old.medium.bytes at r 16 (omega arith) fits in
     cell in
+    let calls : 1 ≡ calls_to_save was = sym (cond-true (has_room was) 1 3 room) in
     record {
-      counters = subst (λ (n : ℕ). MadeChanges old.counters new.counters n (is_err result)) (sym (cond-true (has_room was) 1 3 room)) call.counters.made;
+      counters = subst (λ (n : ℕ). MadeChanges old.counters new.counters n (is_err result)) calls call.counters.made;
       broke = on_err_of result call.counters.broke;
       size = call.size;
       told = call.told;

@@ -153,7 +153,7 @@ pub none_stays : (area : ℕ) (old new : List ℕ) → current_in area old ≡ N
     → (generation_in area 0 new ≡ generation_in area 0 old) ⊎ (generation_in area 0 new ≡ None) → current_in area new ≡ None
 none_stays area old new is same lost =
     let none = both_none (generation_in area 0 old) (generation_in area 1 old) is in
-    let first : generation_in area 0 new ≡ None = elim lost [ | inl kept ↦ kept ∙ none.0 | inr gone ↦ gone ] in
+    let first : generation_in area 0 new ≡ None = elim lost [ inl kept ↦ kept ∙ none.0 | inr gone ↦ gone ] in
     ap (λ (c : Option ℕ). current_page c (generation_in area 1 new)) first ∙ ap (current_page None) (same ∙ none.1)
 
 pub none_next : (area g : ℕ) (old new : List ℕ) → current_in area old ≡ None → generation_in area 1 new ≡ generation_in area 1 old → generation_in area 0 new ≡ Some g → current_in area new ≡ Some 0

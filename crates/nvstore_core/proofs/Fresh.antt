@@ -113,9 +113,10 @@ erased-ones n = All-replicate {X = ℕ} (λ b. b ≡ 255) n 255 refl
 with_cell : (r : List ℕ) → length r ≡ 16 → spliced erased_page 16 r ≡ headless_page r
 unfolding erased_page headless_page
 with_cell r fits =
+    let few : 16 ≤ 4096 = omega arith in
+    let front : take 16 (replicate 4096 255) ≡ replicate 16 255 = take-replicate {X = ℕ} 16 4096 255 few in
     let rest : drop (16 + length r) (replicate 4096 255) ≡ replicate 4064 255 =
     ap (λ (n : ℕ). drop (16 + n) (replicate 4096 255)) fits ∙ drop-replicate {X = ℕ} 32 4096 255 in
-    let front : take 16 (replicate 4096 255) ≡ replicate 16 255 = take-replicate {X = ℕ} 16 4096 255 (omega arith) in
     ap (λ (xs : List ℕ). xs ++ r ++ drop (16 + length r) (replicate 4096 255)) front
     ∙ ap (λ (xs : List ℕ). replicate 16 255 ++ r ++ xs) rest
 

@@ -19,7 +19,7 @@ left_frame at meant old new inside left =
     subst (λ (bytes : List ℕ). SameBut at (length meant) old.bytes bytes) (sym left.bytes) (same_but_spliced old.bytes at left.left (length meant) inside (omega (arith, left.fits, left.within)))
 
 -- the first bytes of a record's piece
-padded_front : (count : ℕ) (bytes : List ℕ) → count ≤ length bytes → count ≤ 512 → take count (padded_piece bytes) ≡ take count bytes
+pub padded_front : (count : ℕ) (bytes : List ℕ) → count ≤ length bytes → count ≤ 512 → take count (padded_piece bytes) ≡ take count bytes
 padded_front count bytes within few =
     take-append-le count (take 512 bytes) (replicate (512 - length bytes) 0) (omega (arith, length-take 512 bytes)) ∙ take-take count 512 bytes few
 
@@ -84,12 +84,12 @@ piece_left area count k at meant old new below is enough inside torn fair =
           elim (first_fair area count k at n was (take n meant) torn.left _ old new below is some meant_len noted fair) [
             | inl kept ↦ inl (kept ∙ ap (λ (l : List ℕ). range (spliced new.bytes at l) at 16) old_part ∙ put_back at m n old.bytes new.bytes (omega (arith, torn.within)) inside' same (omega arith) (λ short. omega arith))
             | inr more ↦ elim more [
-                | inl full ↦
-                    let whole : 16 ≤ m = omega (arith, full.1, len) in
-                    let size : length (take m meant) ≡ m = length-take-le m meant (omega (arith, torn.within)) in
-                    inr (inl (full.2 ∙ ap (λ (l : List ℕ). range (spliced new.bytes at l) at 16) new_part ∙ range-spliced_front new.bytes at (take m meant) 16 inside' (omega arith) ∙ take-take 16 m meant whole))
-                | inr nothing ↦ inr (inr nothing)
-              ]
+              | inl full ↦
+                  let whole : 16 ≤ m = omega (arith, full.1, len) in
+                  let size : length (take m meant) ≡ m = length-take-le m meant (omega (arith, torn.within)) in
+                  inr (inl (full.2 ∙ ap (λ (l : List ℕ). range (spliced new.bytes at l) at 16) new_part ∙ range-spliced_front new.bytes at (take m meant) 16 inside' (omega arith) ∙ take-take 16 m meant whole))
+              | inr nothing ↦ inr (inr nothing)
+            ]
           ]
     ]
 

@@ -10,7 +10,7 @@ use Rattle.board_core.specs.Flash.{FlashMedium, FlashState, LeftTorn, range, spl
 use Rattle.board_core.proofs.TornRange.{length-erased_page}
 use Rattle.board_core.proofs.Overlays.{length-spliced}
 use Rattle.nvstore_core.specs.declared.state.NvState.{NvState}
-use Rattle.nvstore_core.specs.Pages.{head_of, head_generation, cell_of, page_record, next_cell, page_in, generation_in, current_in, record_in, page_state, IsStateOf, InRange, has_room, other_page, next_generation, state_with_record, fresh_page, bytes_with_record}
+use Rattle.nvstore_core.specs.Pages.{head_of, head_generation, cell_of, page_record, next_cell, page_in, generation_in, current_in, record_in, page_state, IsStateOf, InRange, has_room, other_page, next_generation, state_with_record, fresh_page, bytes_with_record, calls_to_save}
 use Rattle.nvstore_core.specs.Saving.{SameBut, Saves}
 use Rattle.nvstore_core.specs.Fair.{IsFairFlash, FailsToStore}
 use Rattle.nvstore_core.specs.Steps.{headless_page, LeftAfter, LeavesPage, WritesPage}
@@ -171,9 +171,9 @@ erase_fails area was r old new ranges known inside left fair =
     (elim (piece_left area 512 (256 * number) place erased_page old new (omega arith) (omega arith) (omega arith) (omega arith) left fair.pages) [
       | inl kept ↦ inl (ap head_generation (head_in area number new.bytes ∙ kept ∙ sym (head_in area number old.bytes)))
       | inr more ↦ elim more [
-          | inl meant ↦ inr (generation_from area number new.bytes (replicate 16 255) (meant ∙ front_of_erased) ∙ erased_is_no_head)
-          | inr nothing ↦ inr (generation_from area number new.bytes _ refl ∙ nothing.no_head)
-        ]
+        | inl meant ↦ inr (generation_from area number new.bytes (replicate 16 255) (meant ∙ front_of_erased) ∙ erased_is_no_head)
+        | inr nothing ↦ inr (generation_from area number new.bytes _ refl ∙ nothing.no_head)
+      ]
     ])
 
 -- the program of cell 0 failed
@@ -217,14 +217,14 @@ head_fails area was r old new fits good ranges known inside left fair =
     elim (piece_left area 512 (256 * number) place head left.mid new (omega arith) (omega arith) (omega arith) (omega arith) left.left (fair_from area 512 old left.mid new left.torn fair.pages)) [
       | inl kept ↦ inl (lost (generation_from area number new.bytes (replicate 16 255) (kept ∙ before) ∙ erased_is_no_head))
       | inr more ↦ elim more [
-          | inl meant ↦
-              let whole : take 16 head ≡ head = take_all 16 head (omega arith) in
-              inr (written_record area was r old.bytes new.bytes ranges known same (record {
-                generation = generation_from area number new.bytes head (meant ∙ whole) ∙ generation_of_head (next_generation was) (small_next (is_some was.page) was.generation);
-                record_there = headless_stands (page_in area number new.bytes) r fits good cells;
-              }))
-          | inr nothing ↦ inl (lost (generation_from area number new.bytes _ refl ∙ nothing.no_head))
-        ]
+        | inl meant ↦
+            let whole : take 16 head ≡ head = take_all 16 head (omega arith) in
+            inr (written_record area was r old.bytes new.bytes ranges known same (record {
+              generation = generation_from area number new.bytes head (meant ∙ whole) ∙ generation_of_head (next_generation was) (small_next (is_some was.page) was.generation);
+              record_there = headless_stands (page_in area number new.bytes) r fits good cells;
+            }))
+        | inr nothing ↦ inl (lost (generation_from area number new.bytes _ refl ∙ nothing.no_head))
+      ]
     ]
 
 page_fails : (area : ℕ) (was : NvState) (r : List ℕ) (old new : FlashMedium) → length r ≡ 16 → is_good_record r ≡ true → InRange was → Known area was old.bytes → area + 8192 ≤ length old.bytes
@@ -275,8 +275,9 @@ saves_by_page area was r old new result room ranges good state sized inside call
     let fresh = λ (told : IsTrue old.medium.told) (bytes : new.medium.bytes ≡ spliced old.medium.bytes place (fresh_page (next_generation was) r)).
     let enough : area + 8192 ≤ length old.medium.bytes = long told in
     fresh_in area was r old.medium.bytes new.medium.bytes fits (omega arith) bytes in
+    let calls : 3 ≡ calls_to_save was = sym (cond-false (has_room was) 1 3 room) in
     record {
-      counters = subst (λ (n : ℕ). MadeChanges old.counters new.counters n (is_err result)) (sym (cond-false (has_room was) 1 3 room)) call.counters;
+      counters = subst (λ (n : ℕ). MadeChanges old.counters new.counters n (is_err result)) calls call.counters;
       broke = call.broke;
       size = call.size;
       told = call.told;

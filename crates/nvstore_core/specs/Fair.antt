@@ -20,12 +20,18 @@ piece_at bytes at = range bytes at 16
 abbrev pub IsFairAt : List ℕ → Torn → ℕ → Type 0
 IsFairAt bytes torn at =
     (piece_at bytes at ≡ piece_at (spliced bytes torn.at (take torn.len torn.was)) at)
-    ⊎ ((torn.at ≤ at) × (at + 16 ≤ torn.at + torn.len) × (piece_at bytes at ≡ piece_at (spliced bytes torn.at (take torn.len torn.meant)) at))
+    ⊎ ((torn.at ≤ at) × (at + 16 ≤ torn.at + torn.len)
+    × (piece_at bytes at ≡ piece_at (spliced bytes torn.at (take torn.len torn.meant)) at))
     ⊎ IsNothing (piece_at bytes at)
 
--- so it is in each of so many pieces from a place that a new record meets
+-- so it is in each of so many pieces from a place that a record meets
+abbrev pub IsFairlyLeft : ℕ → ℕ → List ℕ → Torn → Type 0
+IsFairlyLeft area count bytes torn =
+    (k : ℕ) → k < count → torn.at < area + 16 * k + 16 → area + 16 * k < torn.at + torn.len → IsFairAt bytes torn (area + 16 * k)
+
+-- and for each new record
 pub record IsFairIn (area count : ℕ) (old new : FlashMedium) : Type 0 where
-  pub each : All (λ torn. (k : ℕ) → k < count → torn.at < area + 16 * k + 16 → area + 16 * k < torn.at + torn.len → IsFairAt new.bytes torn (area + 16 * k)) (added old.torn new.torn)
+  pub each : All (IsFairlyLeft area count new.bytes) (added old.torn new.torn)
 
 -- What a device is to leave of failed changes of the nv pages: all 512 pieces of both pages are fair. It speaks of the
 -- records that were added from the old flash to the new one, and of nothing else. That torn copies of a partition table
@@ -38,4 +44,5 @@ pub record FailsToStore (area : ℕ) (r : List ℕ) (old new : FlashMedium) : Ty
   -- no torn record is lost
   pub grown : IsTrue old.told → Grown old.torn new.torn
   -- where the remains are fair, the pages stand for the record of before, or for the one that was to be stored
-  pub nv : IsTrue old.told → IsFairFlash area old new → (record_in area new.bytes ≡ record_in area old.bytes) ⊎ (record_in area new.bytes ≡ Some r)
+  pub nv : IsTrue old.told → IsFairFlash area old new
+      → (record_in area new.bytes ≡ record_in area old.bytes) ⊎ (record_in area new.bytes ≡ Some r)

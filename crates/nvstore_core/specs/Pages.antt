@@ -24,7 +24,10 @@ head_of generation = head_front generation ++ crc8_of (head_front generation) �
 -- the generation of a whole head, 0 to 2
 unfoldable pub head_generation : List ℕ → Option ℕ
 head_generation head =
-    if bytes_eq head (head_of 0) then Some 0 else if bytes_eq head (head_of 1) then Some 1 else if bytes_eq head (head_of 2) then Some 2 else None
+    if bytes_eq head (head_of 0) then Some 0
+    else if bytes_eq head (head_of 1) then Some 1
+    else if bytes_eq head (head_of 2) then Some 2
+    else None
 
 -- the generation of a page whose head is whole: then the page counts
 abbrev pub page_generation : List ℕ → Option ℕ
@@ -112,6 +115,11 @@ page_state number page = record {
   nv = unwrap_or (page_record page) blank_record;
   stands = is_some (page_record page);
 }
+
+-- the state of two pages, one of which is current
+abbrev pub state_of_pages : List ℕ → List ℕ → NvState
+state_of_pages first second =
+    of_current (current_page (page_generation first) (page_generation second)) empty_state (page_state 0 first) (page_state 1 second)
 
 -- the state of the two pages of an area
 unfoldable pub state_in : ℕ → List ℕ → NvState

@@ -18,7 +18,8 @@ SameButPages area old new = SameBut area 8192 old new
 -- what was written in the current page stays: its head and all cells below the next one
 abbrev pub KeepsWritten : ℕ → NvState → List ℕ → List ℕ → Type 0
 KeepsWritten area state old new =
-    IfSome state.page (λ page. range new (area + 4096 * page) (16 + 16 * state.next) ≡ range old (area + 4096 * page) (16 + 16 * state.next))
+    IfSome state.page (λ page.
+    range new (area + 4096 * page) (16 + 16 * state.next) ≡ range old (area + 4096 * page) (16 + 16 * state.next))
 
 -- The call to load the state of the pages.
 pub record Loads {E : Type 0} (area : ℕ) (old new : FlashState) (result : Result NvState E) : Type 0 where

@@ -2,7 +2,7 @@
 ghost use Rattle.std.specs.Prelude.{◌≡◌, ◌+◌, ◌*◌, ◌%◌, ◌≤◌, length, IfSome, unwrap_or, is_some};
 ghost use Rattle.record_core.specs.Nv.{blank_record};
 ghost use Rattle.board_core.specs.Flash.{FlashState};
-ghost use Rattle.nvstore_core.specs.Pages.{current_page, of_current, page_state, empty_state, page_generation, InRange};
+ghost use Rattle.nvstore_core.specs.Pages.{current_page, page_state, state_of_pages, InRange};
 ghost use Rattle.nvstore_core.specs.Saving.{Loads};
 
 use crate::page::{CELLS, PAGE_SIZE, first_of_tail, generation_of, last_good_record};
@@ -48,7 +48,7 @@ fn state_of_page(number: u8, page: &[u8; 4096]) -> NvState
 
 // What two pages stand for.
 fn state_of(first: &[u8; 4096], second: &[u8; 4096]) -> NvState
-    ensures state { result ≡ of_current (current_page (page_generation first.now) (page_generation second.now)) empty_state (page_state 0 first.now) (page_state 1 second.now) }
+    ensures state { result ≡ state_of_pages first.now second.now }
     ensures within { InRange result }
 {
     match current_of(generation_of(first), generation_of(second)) {

@@ -6,7 +6,7 @@ ghost use Rattle.nvstore_core.specs.Pages.{IsStateOf, InRange, has_room, other_p
 ghost use Rattle.nvstore_core.specs.Saving.{Saves};
 ghost use Rattle.nvstore_core.specs.Steps.{WritesPage};
 
-use crate::page::{CELLS, CELL_SIZE, PAGE_SIZE, page_head};
+use crate::page::{CELL_SIZE, CELLS, PAGE_SIZE, page_head};
 use crate::state::NvState;
 use board_core::{Failed, Flash};
 use record_core::Nv;

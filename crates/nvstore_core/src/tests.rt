@@ -1,6 +1,10 @@
 // The store over a flash in memory: it is stopped at each call with each kind of remains, and it stores many records one
 // after another.
-ghost use Rattle.std.specs.Prelude.{◌≤◌};
+ghost use Rattle.std.specs.Prelude.{◌≡◌, ◌+◌, ◌*◌, ◌%◌, ◌≤◌, Some};
+ghost use Rattle.board_mem.specs.declared.fails.Remains.TheVariants.{Old, New, Fill};
+ghost use Rattle.board_mem.specs.Fails.{next_failure};
+ghost use Rattle.board_mem.specs.MemFlash.{mem_flash_state, mem_flash_plan};
+ghost use Rattle.nvstore_core.specs.Fair.{IsFairFlash};
 
 use super::page::page_head;
 use super::*;
@@ -30,8 +34,7 @@ fn put_page(
     head: &[u8; 16],
     used: usize,
     nv: &Nv,
-) -> Result<(), AllocError>
-{
+) -> Result<(), AllocError> {
     content.extend_from_slice(head)?;
     for cell in 0..255 {
         if cell < used {
@@ -48,8 +51,7 @@ fn flash_of(
     alloc: Global,
     first: (&[u8; 16], usize),
     second: (&[u8; 16], usize),
-) -> Result<Vec<u8>, AllocError>
-{
+) -> Result<Vec<u8>, AllocError> {
     let mut content = Vec::new(alloc);
     put_page(&mut content, &NO_HEAD, 0, &Nv::blank())?;
     put_page(&mut content, first.0, first.1, &record_of(1))?;
@@ -82,6 +84,36 @@ fn stop_at(
     save(&mut flash, AREA, &mut after, &new)?;
     assert!(rt; load(&mut flash, AREA)?.holds(&new));
     Ok(false)
+}
+
+// The premise on remains is met by a flash in memory: a program of a cell or a head that fails leaves fair remains, where
+// the list names the old bytes, the new ones or zeros.
+fn program_fairly(flash: &mut MemFlash, at: u32, bytes: &[u8; 16]) -> Result<(), Failed>
+    requires area { 4096 ≤ at }
+    requires piece { at % 16 ≡ 0 }
+    requires inside { at + 16 ≤ (mem_flash_state flash.old).medium.size }
+    ensures old { next_failure (mem_flash_plan flash.old) ≡ Some Old
+        → IsFairFlash 4096 (mem_flash_state flash.old).medium (mem_flash_state flash.new).medium }
+    ensures new { next_failure (mem_flash_plan flash.old) ≡ Some New
+        → IsFairFlash 4096 (mem_flash_state flash.old).medium (mem_flash_state flash.new).medium }
+    ensures zeros { next_failure (mem_flash_plan flash.old) ≡ Some (Fill 0)
+        → IsFairFlash 4096 (mem_flash_state flash.old).medium (mem_flash_state flash.new).medium }
+{
+    flash.program(at, bytes)
+}
+
+// And so does an erase of a page that fails.
+fn erase_fairly(flash: &mut MemFlash, page: u32) -> Result<(), Failed>
+    requires area { 1 ≤ page }
+    requires inside { page * 4096 + 4096 ≤ (mem_flash_state flash.old).medium.size }
+    ensures old { next_failure (mem_flash_plan flash.old) ≡ Some Old
+        → IsFairFlash 4096 (mem_flash_state flash.old).medium (mem_flash_state flash.new).medium }
+    ensures new { next_failure (mem_flash_plan flash.old) ≡ Some New
+        → IsFairFlash 4096 (mem_flash_state flash.old).medium (mem_flash_state flash.new).medium }
+    ensures zeros { next_failure (mem_flash_plan flash.old) ≡ Some (Fill 0)
+        → IsFairFlash 4096 (mem_flash_state flash.old).medium (mem_flash_state flash.new).medium }
+{
+    flash.erase(page)
 }
 
 #[test]
@@ -135,7 +167,10 @@ fn a_switch_is_stopped_at_each_call(rt: HostRuntime) -> Result<(), Fail> {
         fuse.arm(call, keep)?;
         assert_eq!(rt; fuse.size(), 12288);
         let mut state = load(&mut fuse, AREA)?;
-        assert_eq!(rt; save(&mut fuse, AREA, &mut state, &record_of(3)), Err(Failed));
+        assert_eq!(rt;
+            save(&mut fuse, AREA, &mut state, &record_of(3)),
+            Err(Failed)
+        );
         fuse.revive();
         assert_eq!(rt; fuse.size(), 12288);
         let found = load(&mut fuse, AREA)?;
@@ -163,6 +198,9 @@ fn saves_follow_one_another(rt: HostRuntime) -> Result<(), Fail> {
         assert!(rt; load(&mut flash, AREA)?.holds(&nv));
     }
     // Three pages are full, and the fourth has the other 35.
-    assert_eq!(rt; (state.page, state.generation, state.next), (Some(1), 0, 35));
+    assert_eq!(rt;
+        (state.page, state.generation, state.next),
+        (Some(1), 0, 35)
+    );
     Ok(())
 }

@@ -1,5 +1,5 @@
-//! The nvdata record in two pages of the flash: which record stands, and another one in its place. A stop of the flash at
-//! any call leaves the old record or the new one.
+//! The nvdata record in two pages of the flash: which record stands, and another one in its place. A flash that fails at
+//! any call of a save leaves the old record or the new one, where the bytes that it left torn do not pass their checks.
 //!
 //! - `state` is what the store knows of its pages.
 //! - `page` reads one page, and makes the head of one.

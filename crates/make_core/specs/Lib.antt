@@ -1,0 +1,5 @@
+-- The definitions of this crate: the bytes of an image first, then what a call leaves on each device.
+pub mod Fill
+pub mod Puts
+pub mod Firmware
+pub mod Layout

@@ -9,7 +9,7 @@ use Rattle.make_core.specs.Firmware.{body, body_size}
 use Rattle.make_core.specs.Layout.{padded_page}
 use Rattle.make_core.proofs.Fills.{range-fill_from}
 use Rattle.make_core.proofs.Sizes.{length-body}
-use Rattle.make_core.proofs.Pages.{erased_page-is}
+use Rattle.make_core.proofs.PageParts.{erased_page-is}
 
 range-past : (bytes : List ℕ) (at n : ℕ) → length bytes ≤ at → range bytes at n ≡ []
 range-past bytes at n past = ap (take n) (drop_all at bytes past) ∙ take_all n [] (omega arith)

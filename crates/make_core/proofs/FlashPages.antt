@@ -7,7 +7,7 @@ use Rattle.make_core.specs.declared.layout.SlotTags.{SlotTags}
 use Rattle.make_core.specs.Firmware.{vblock, body, body_size, slot_a, slot_b}
 use Rattle.make_core.specs.Layout.{Part, part, with_parts, erased, flash_map, gbb, nv_page, flash_parts, machine_flash, padded_page}
 use Rattle.make_core.proofs.Sizes.{length-flash_map, length-gbb, length-vblock, length-body}
-use Rattle.make_core.proofs.Pages.{IsApart, AreApart, range-apart, range-part, length-erased, range-erased, erased_page-is}
+use Rattle.make_core.proofs.PageParts.{IsApart, AreApart, length-apart, range-apart, range-part, length-erased, range-erased, erased_page-is}
 
 -- a part that ends before a page
 before : (page : ℕ) (p : Part) → p.at + length p.bytes ≤ page * 4096 → page < 256 → IsApart 1048576 (page * 4096) 4096 p
@@ -182,3 +182,8 @@ blank_page-is number page few not_map not_gbb not_nv not_vblock_a not_main_a not
     ∙ sym (range-apart 1048576 (page * 4096) 4096 (flash_parts number) (erased 1048576) (length-erased 1048576) (omega (arith, few))
     (map_apart page few not_map, (gbb_apart number page few not_gbb, (nv_apart page few not_nv, (vblock_apart number slot_a page 16 (omega arith) few not_vblock_a, (body_apart number slot_a page 32 (omega arith) few not_main_a, (vblock_apart number slot_b page 64 (omega arith) few not_vblock_b, (body_apart number slot_b page 80 (omega arith) few not_main_b, tt)))))))
     ∙ range-erased 1048576 (page * 4096) 4096 (omega (arith, few)))
+
+pub length-machine_flash : (number : ℕ) → length (machine_flash number) ≡ 1048576
+unfolding machine_flash
+length-machine_flash number =
+    length-apart 1048576 (0 * 4096) 4096 (flash_parts number) (erased 1048576) (length-erased 1048576) (map_apart 0 (omega arith) (inl (omega arith)), from_gbb-apart number 0 (omega arith) (omega arith))

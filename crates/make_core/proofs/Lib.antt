@@ -2,6 +2,9 @@
 pub mod Fills
 pub mod Fronts
 pub mod Sizes
-pub mod Pages
+pub mod PageParts
 pub mod BodyPages
 pub mod FlashPages
+pub mod Blank
+pub mod PageWrites
+pub mod FlashWrites

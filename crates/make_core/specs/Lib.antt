@@ -3,3 +3,5 @@ pub mod Fill
 pub mod Puts
 pub mod Firmware
 pub mod Layout
+pub mod Writing
+pub mod Pages

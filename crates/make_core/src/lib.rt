@@ -6,3 +6,4 @@ mod page;
 mod parts;
 mod putting;
 mod slot;
+mod writing;

@@ -1,7 +1,7 @@
 use Rattle.std.proofs.Common.{◌≡◌, ◌∙◌, ℕ, ◌-◌, ◌≤◌, min, ap, sym, arith}
 use Rattle.make_core.specs.Firmware.{body_size}
 use Rattle.make_core.specs.Layout.{padded_page}
-use Rattle.make_core.proofs.Pages.{padded_front}
+use Rattle.make_core.proofs.PageParts.{padded_front}
 use Rattle.make_core.proofs.BodyPages.{body_page-none, body_page-some}
 use Rattle.make_core.proofs.page.make_body_page.Goals as goal
 

@@ -12,7 +12,7 @@ pub length-erased : (count : ℕ) → length (erased count) ≡ count
 unfolding erased
 length-erased count = length-replicate {A = ℕ} count 255
 
-get_or-erased : (count i : ℕ) → i < count → get_or (erased count) i 0 ≡ 255
+pub get_or-erased : (count i : ℕ) → i < count → get_or (erased count) i 0 ≡ 255
 unfolding erased
 get_or-erased count i lt = get_or-replicate {A = ℕ} count i 255 0 lt
 

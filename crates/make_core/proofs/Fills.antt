@@ -1,9 +1,7 @@
 -- Filled bytes: how many there are, and pieces of them.
-use Rattle.std.proofs.Common.{◌≡◌, ℕ, ◌+◌, ◌*◌, ◌/◌, ◌%◌, ◌<◌, ◌≤◌, List, ◌++◌, length, get_or, take, drop, refl, sym, ap, ◌∙◌, arith, length-append, length-take, length-drop}
+use Rattle.std.proofs.Common.{◌≡◌, ℕ, ◌+◌, ◌*◌, ◌/◌, ◌%◌, ◌<◌, ◌≤◌, List, [], ◌++◌, length, get_or, take, drop, refl, sym, ap, ◌∙◌, arith, length-take, length-drop}
 use Rattle.std.proofs.lemmas.List.{ext_get_or, get_or-take, get_or-drop, take_all, take-append-drop}
-use Rattle.std.proofs.lemmas.List.FromFn.{length-map-range_with_len, get_or-map-range_with_len, take-map-range_with_len}
-use Rattle.std.specs.List.{range_with_len}
-use Rattle.std.specs.Prelude.{map}
+use Rattle.std.proofs.lemmas.List.FromFn.{length-map-range_with_len, get_or-map-range_with_len}
 use Rattle.board_core.specs.Flash.{range}
 use Rattle.make_core.specs.Fill.{fill_byte, fill_from}
 
@@ -37,6 +35,11 @@ range-fill_from number tag first count at n within =
     let place : first + (at + i) ≡ first + at + i = omega arith in
     get_or-take n (drop at whole) i 0 short ∙ get_or-drop at whole i 0 ∙ get_or-fill_from number tag first count (at + i) (omega arith)
     ∙ ap (fill_byte number tag) place ∙ sym (get_or-fill_from number tag (first + at) n i short))
+
+-- no bytes
+pub fill_from-none : (number tag first : ℕ) → fill_from number tag first 0 ≡ []
+unfolding fill_from
+fill_from-none number tag first = refl
 
 -- one piece after another
 pub fill_from-more : (number tag first count more : ℕ) → fill_from number tag first count ++ fill_from number tag (first + count) more ≡ fill_from number tag first (count + more)

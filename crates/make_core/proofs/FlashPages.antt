@@ -1,11 +1,11 @@
 -- The pages of the flash: in each, one part of the flash or none.
-use Rattle.std.proofs.Common.{◌≡◌, ◌⊎◌, inl, inr, ℕ, ◌+◌, ◌-◌, ◌*◌, ◌≤◌, ◌<◌, List, [], ◌∷◌, ◌++◌, length, take, drop, refl, sym, ap, ◌∙◌, arith}
+use Rattle.std.proofs.Common.{◌≡◌, ◌⊎◌, inl, inr, ℕ, ◌+◌, ◌-◌, ◌*◌, ◌≤◌, ◌<◌, List, [], ◌∷◌, length, take, drop, sym, ap, ◌∙◌, arith}
 use Rattle.std.proofs.lemmas.List.{take_all}
 use Rattle.std.proofs.lemmas.Bool.{cases_lt}
 use Rattle.board_core.specs.Flash.{range, erased_page}
 use Rattle.make_core.specs.declared.layout.SlotTags.{SlotTags}
-use Rattle.make_core.specs.Firmware.{vblock, body, body_size, slot_a, slot_b}
-use Rattle.make_core.specs.Layout.{Part, part, with_parts, erased, flash_map, gbb, nv_page, flash_parts, machine_flash, padded_page}
+use Rattle.make_core.specs.Firmware.{vblock, body, slot_a, slot_b}
+use Rattle.make_core.specs.Layout.{Part, part, erased, flash_map, gbb, nv_page, flash_parts, machine_flash, padded_page}
 use Rattle.make_core.proofs.Sizes.{length-flash_map, length-gbb, length-vblock, length-body}
 use Rattle.make_core.proofs.PageParts.{IsApart, AreApart, length-apart, range-apart, range-part, length-erased, range-erased, erased_page-is}
 

@@ -1,11 +1,11 @@
 -- The pages of a flash, one after another.
-use Rattle.std.proofs.Common.{◌≡◌, ◌⊎◌, inl, inr, ℕ, zero, suc, ◌+◌, ◌-◌, ◌*◌, ◌≤◌, ◌<◌, List, ◌++◌, length, take, drop, refl, sym, ap, subst, ◌∙◌, arith, add-one, add-zero, length-append, length-take, length-drop, Bool, true, false, IsTrue}
+use Rattle.std.proofs.Common.{◌≡◌, ℕ, zero, suc, ◌+◌, ◌-◌, ◌*◌, ◌≤◌, ◌<◌, List, ◌++◌, length, take, drop, refl, sym, ap, subst, ◌∙◌, arith, add-one, add-zero, length-take, length-drop, true, false, IsTrue}
 use Rattle.std.proofs.lemmas.List.{take_at, drop_at, drop-drop, take_all, drop_all, append-nil}
 use Rattle.std.proofs.Math.Seq.{take-add}
 use Rattle.board_core.specs.Counters.{MadeChanges}
-use Rattle.board_core.specs.Flash.{FlashMedium, FlashState, range, spliced, erased_page}
+use Rattle.board_core.specs.Flash.{FlashMedium, FlashState, range, spliced}
 use Rattle.board_core.proofs.Stops.{made_none, made_then}
-use Rattle.make_core.specs.Writing.{is_blank, unless_blank, changes_needed, holding, begun, LeftInPage, WritesFlash}
+use Rattle.make_core.specs.Writing.{unless_blank, changes_needed, holding, begun, LeftInPage, WritesFlash}
 use Rattle.make_core.specs.Pages.{RewritesPage}
 use Rattle.std.proofs.lemmas.Bool.{false≢true}
 use Rattle.make_core.proofs.PageWrites.{not_both}
@@ -107,8 +107,15 @@ writes_stopped image pages old mid new under long full so_far rewrites =
           ap (λ (m : FlashMedium). range m.bytes at 4096) (so_far.medium told) ∙ range-begun at 4096 image old.medium.bytes (omega (arith, under, long)) in
           let blanks : unless_blank (range mid.medium.bytes at 4096) ≡ unless_blank (range old.medium.bytes at 4096) = ap unless_blank same in
           let all : pages + 1 + (255 - pages) ≡ 256 = omega arith in
-          omega (arith, so_far.counted told, rewrites.needed (told_mid told), blanks, changes_next pages image old.medium.bytes,
-          changes_more (pages + 1) (255 - pages) image old.medium.bytes, ap (λ (n : ℕ). changes_needed n image old.medium.bytes) all);
+          omega (
+            arith,
+            so_far.counted told,
+            rewrites.needed (told_mid told),
+            blanks,
+            changes_next pages image old.medium.bytes,
+            changes_more (pages + 1) (255 - pages) image old.medium.bytes,
+            ap (λ (n : ℕ). changes_needed n image old.medium.bytes) all,
+          );
       whole = λ told fine. not_both fine;
       ok = λ told fine. not_both fine;
       err = λ told failed. (pages, under, subst (λ (m : FlashMedium). LeftInPage at piece m new.medium) (so_far.medium told) (rewrites.err (told_mid told) failed));

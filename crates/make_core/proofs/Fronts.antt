@@ -1,10 +1,9 @@
 -- A buffer that is written from its first byte on, one part after another.
-use Rattle.std.proofs.Common.{◌≡◌, ℕ, ◌+◌, ◌-◌, ◌≤◌, List, [], ◌++◌, length, take, drop, refl, sym, ap, subst, ◌∙◌, arith, length-append, length-take, length-drop, append_assoc}
+use Rattle.std.proofs.Common.{◌≡◌, ℕ, ◌+◌, ◌≤◌, List, [], ◌++◌, length, take, drop, refl, sym, ap, subst, ◌∙◌, arith, length-append, length-take, append_assoc}
 use Rattle.std.proofs.lemmas.List.{take_at, take_all, drop-drop}
-use Rattle.board_core.specs.Flash.{spliced}
 use Rattle.board_core.proofs.Overlays.{length-spliced}
 use Rattle.make_core.specs.Puts.{Puts}
-use borrow.Rule.Slice.PartMut.{put_mid, post_of}
+use borrow.Rule.Slice.PartMut.{put_mid}
 
 -- a write to a part of a buffer
 pub puts_part : (at count : ℕ) (bytes meant part : List ℕ) → part ≡ meant → count ≡ length meant → Puts at meant bytes (put_mid at count bytes part)

@@ -8,3 +8,5 @@ pub mod FlashPages
 pub mod Blank
 pub mod PageWrites
 pub mod FlashWrites
+pub mod Enrollments
+pub mod RowsMade

@@ -1,6 +1,6 @@
 -- A page of an image: what a part leaves in it, where all other parts are apart from it.
 use Rattle.std.proofs.Common.{◌≡◌, ◌⊎◌, inl, inr, ℕ, ◌+◌, ◌-◌, ◌≤◌, ◌<◌, List, [], ◌∷◌, ◌++◌, length, get_or, take, drop, refl, sym, ap, ◌∙◌, arith, length-append, length-take, length-drop}
-use Rattle.std.proofs.lemmas.List.{ext_get_or, get_or-take, get_or-drop, get_or_append_left, get_or-append_right, length-replicate, get_or-replicate, drop_all, drop-replicate, take-replicate, append-nil}
+use Rattle.std.proofs.lemmas.List.{ext_get_or, get_or-take, get_or-drop, get_or_append_left, get_or-append_right, length-replicate, get_or-replicate, drop-replicate, take-replicate}
 use Rattle.std.proofs.lemmas.Bool.{cases_lt}
 use Rattle.board_core.specs.Flash.{range, spliced, erased_page}
 use Rattle.board_core.proofs.Overlays.{length-spliced, spliced_inside, spliced_after}

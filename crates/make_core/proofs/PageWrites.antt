@@ -1,18 +1,16 @@
 -- The making of one page of a flash.
-use Rattle.std.proofs.Common.{◌≡◌, inl, inr, ℕ, ◌+◌, ◌-◌, ◌*◌, ◌≤◌, ◌<◌, List, ◌++◌, length, take, drop, refl, sym, ap, subst, ◌∙◌, arith, length-append, length-take, length-drop, Bool, true, false, IsTrue, Result, is_err, append_assoc}
+use Rattle.std.proofs.Common.{◌≡◌, inl, inr, ℕ, ◌+◌, ◌*◌, ◌≤◌, List, ◌++◌, length, take, drop, refl, sym, ap, subst, ◌∙◌, arith, length-append, length-take, Bool, true, false, IsTrue, Result, is_err, append_assoc}
 use Rattle.std.proofs.lemmas.Bool.{false≢true}
 use Rattle.std.proofs.lemmas.List.{take_at, drop_at}
-use Rattle.board_core.specs.Counters.{Observed, MadeChanges}
-use Rattle.board_core.specs.Torn.{Logs}
+use Rattle.board_core.specs.Counters.{Observed}
 use Rattle.board_core.specs.Flash.{FlashMedium, FlashState, Erases, Programs, LeftTorn, range, spliced, erased_page, IsErased}
 use Rattle.board_core.proofs.Stops.{made_none, made_only_observed, observed_made, made_then}
 use Rattle.board_core.proofs.FuseLemmas.{on_ok_at, on_err_at}
 use Rattle.board_core.proofs.TornRange.{left_torn_same, spliced_same, length-erased_page}
-use Rattle.board_core.proofs.Overlays.{length-spliced}
 use Rattle.board_core.proofs.OverlaidRanges.{range-spliced_same}
-use Rattle.make_core.specs.Writing.{unless_blank, holding, LeftInPage}
+use Rattle.make_core.specs.Writing.{holding}
 use Rattle.make_core.specs.Pages.{BlanksPage, FillsPage, RewritesPage}
-use Rattle.make_core.proofs.Blank.{unless_blank-none, unless_blank-one, erased_page-only, erased_page-blank}
+use Rattle.make_core.proofs.Blank.{unless_blank-none, unless_blank-one, erased_page-blank}
 
 -- a medium by its parts
 pub medium_path : (a b : FlashMedium) → a.size ≡ b.size → a.told ≡ b.told → a.bytes ≡ b.bytes → a.torn ≡ b.torn → a ≡ b

@@ -5,3 +5,7 @@ pub mod Firmware
 pub mod Layout
 pub mod Writing
 pub mod Pages
+pub mod Spaces
+pub mod Rows
+pub mod Enrolling
+pub mod Make

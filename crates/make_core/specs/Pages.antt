@@ -1,7 +1,7 @@
 -- What is left of a flash by the making of one page.
 use Rattle.std.specs.Prelude.{◌≡◌, ℕ, ◌+◌, ◌≤◌, List, Bool, false, IsTrue}
 use Rattle.board_core.specs.Counters.{MadeChanges}
-use Rattle.board_core.specs.Flash.{FlashState, LeftTorn, range, spliced, erased_page, IsErased}
+use Rattle.board_core.specs.Flash.{FlashState, LeftTorn, range, spliced, erased_page}
 use Rattle.make_core.specs.Writing.{unless_blank, holding, LeftInPage}
 
 -- The page from a place was erased, unless it was erased already, or the flash failed.

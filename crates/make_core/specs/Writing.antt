@@ -1,6 +1,6 @@
 -- What is left of a flash by a call that makes its pages those of an image. A page that is as it is to be is made all the
 -- same: each page is erased once, unless it is erased already, and programmed once, unless it is to be erased.
-use Rattle.std.specs.Prelude.{◌≡◌, ◌⊎◌, ℕ, zero, suc, ◌+◌, ◌*◌, ◌<◌, ◌≤◌, ◌==◌, List, ◌++◌, take, drop, Bool, true, false, IsTrue, if◌then◌else◌}
+use Rattle.std.specs.Prelude.{◌≡◌, ◌⊎◌, ℕ, zero, suc, ◌+◌, ◌*◌, ◌<◌, ◌≤◌, ◌==◌, List, ◌++◌, take, drop, Bool, false, IsTrue, if◌then◌else◌}
 use Rattle.std.specs.List.{list_all}
 use Rattle.board_core.specs.Counters.{MadeChanges}
 use Rattle.board_core.specs.Flash.{FlashMedium, FlashState, LeftTorn, range, spliced, erased_page}

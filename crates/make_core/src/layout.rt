@@ -241,3 +241,13 @@ pub const MAIN_B_PAGE: u32 = MAIN_B_AREA.0 / PAGE_SIZE;
 
 /// The last page of the area of slot B's body.
 pub const MAIN_B_LAST: u32 = MAIN_B_PAGE + MAIN_B_AREA.1 / PAGE_SIZE - 1;
+
+// ---- the spaces of the TPM
+
+/// The firmware space: struct version 2, flags 0, versions 0x00010001, and a CRC-8 at the end.
+pub const FIRMWARE_SPACE: [u8; 10] = [0x02, 0, 0x01, 0, 0x01, 0, 0, 0, 0, 0x4f];
+
+/// The kernel space: struct version 2, the uid 0x4752574c, versions 0x00010001, and a CRC-8 at the end.
+pub const KERNEL_SPACE: [u8; 13] = [
+    0x02, 0x4c, 0x57, 0x52, 0x47, 0x01, 0, 0x01, 0, 0, 0, 0, 0x55,
+];

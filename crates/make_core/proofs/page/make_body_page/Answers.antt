@@ -1,5 +1,4 @@
-use Rattle.std.proofs.Common.{◌≡◌, ◌∙◌, ℕ, ◌-◌, ◌≤◌, min, ap, sym, arith}
-use Rattle.make_core.specs.Firmware.{body_size}
+use Rattle.std.proofs.Common.{◌∙◌, ℕ, ◌-◌, min, ap, arith}
 use Rattle.make_core.specs.Layout.{padded_page}
 use Rattle.make_core.proofs.PageParts.{padded_front}
 use Rattle.make_core.proofs.BodyPages.{body_page-none, body_page-some}

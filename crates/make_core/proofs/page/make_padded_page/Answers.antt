@@ -1,4 +1,3 @@
-use Rattle.std.proofs.Common.{◌≡◌, ◌∙◌}
 use Rattle.make_core.proofs.PageParts.{padded_front}
 use Rattle.make_core.proofs.page.make_padded_page.Goals as goal
 

@@ -1,4 +1,4 @@
-use Rattle.std.proofs.Common.{◌≡◌, ◌⊎◌, inl, inr, ◌∙◌, ◌+◌, ◌*◌, ◌<◌, ◌≤◌, ℕ, sym, ap, arith}
+use Rattle.std.proofs.Common.{inl, inr, ◌∙◌, ◌*◌, ℕ, sym, ap, arith}
 use Rattle.board_core.specs.Flash.{range}
 use Rattle.make_core.specs.Layout.{padded_page, machine_flash}
 use Rattle.make_core.proofs.FlashPages.{map_page-is, gbb_page-is, nv_page-is, vblock_a_page-is, vblock_b_page-is, main_a_page-is, main_b_page-is, blank_page-is, other}

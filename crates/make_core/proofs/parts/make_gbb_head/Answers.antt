@@ -1,4 +1,4 @@
-use Rattle.std.proofs.Common.{ℕ, refl, arith, ap, ◌∙◌}
+use Rattle.std.proofs.Common.{refl, arith}
 use Rattle.make_core.proofs.Fronts.{begins_none, begins_more, begins_as, begins_whole}
 use Rattle.sha2.proofs.Facts256.{length-sha256}
 use Rattle.make_core.proofs.Sizes.{length-words}

@@ -1,6 +1,6 @@
-use Rattle.std.proofs.Common.{ℕ, refl, arith, ap, ◌∙◌}
+use Rattle.std.proofs.Common.{refl, arith}
 use Rattle.std.specs.Prelude.{codes}
-use Rattle.make_core.proofs.Fronts.{begins_none, begins_more, begins_as, begins_whole}
+use Rattle.make_core.proofs.Fronts.{begins_none, begins_as, begins_whole}
 use Rattle.make_core.specs.Layout.{flash_map}
 use Rattle.make_core.proofs.Sizes.{length-map_head, length-area_row}
 use Rattle.make_core.proofs.parts.make_map.Goals as goal

@@ -1,5 +1,5 @@
-use Rattle.std.proofs.Common.{ℕ, refl, arith, ap, ◌∙◌}
-use Rattle.make_core.proofs.Fronts.{begins_none, begins_more, begins_as, begins_whole}
+use Rattle.std.proofs.Common.{refl, arith}
+use Rattle.make_core.proofs.Fronts.{begins_none, begins_more, begins_whole}
 use Rattle.make_core.proofs.Fills.{length-fill_from}
 use Rattle.make_core.proofs.Sizes.{length-words}
 use Rattle.make_core.proofs.parts.make_packed_key.Goals as goal

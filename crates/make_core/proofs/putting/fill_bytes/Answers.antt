@@ -1,4 +1,4 @@
-use Rattle.std.proofs.Common.{◌≡◌, ◌+◌, ◌<◌, ◌≢◌, ◌∙◌, ℕ, length, arith, ap, get_or-set_other, get_or-set_same, below_more}
+use Rattle.std.proofs.Common.{◌+◌, ◌<◌, ◌≢◌, ◌∙◌, length, arith, ap, get_or-set_other, get_or-set_same, below_more}
 use Rattle.make_core.specs.Fill.{fill_from}
 use Rattle.make_core.proofs.Fills.{fill_byte-low, fill_from-places}
 use Rattle.make_core.proofs.putting.fill_bytes.Goals as goal

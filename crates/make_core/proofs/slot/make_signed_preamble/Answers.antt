@@ -1,4 +1,4 @@
-use Rattle.std.proofs.Common.{ℕ, refl, arith, ap, ◌∙◌}
+use Rattle.std.proofs.Common.{ℕ, refl, arith, ap}
 use Rattle.make_core.proofs.Fronts.{begins_none, begins_more, begins_as, begins_whole}
 use Rattle.make_core.proofs.Fills.{length-fill_from}
 use Rattle.make_core.specs.Firmware.{words, preamble_head, signed_preamble}

@@ -1,5 +1,5 @@
-use Rattle.std.proofs.Common.{refl, arith, ap, ◌∙◌}
-use Rattle.make_core.proofs.Fronts.{begins_none, begins_more, begins_as, begins_whole}
+use Rattle.std.proofs.Common.{refl, arith}
+use Rattle.make_core.proofs.Fronts.{begins_none, begins_as, begins_whole}
 use Rattle.make_core.specs.Firmware.{vblock}
 use Rattle.make_core.proofs.Sizes.{length-keyblock, length-preamble}
 use Rattle.make_core.proofs.slot.make_vblock.Goals as goal

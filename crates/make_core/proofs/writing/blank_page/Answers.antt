@@ -1,7 +1,6 @@
-use Rattle.std.proofs.Common.{◌≡◌, ◌+◌, ◌*◌, ◌≤◌, ◌∙◌, List, ℕ, IsTrue, length, ap, sym, subst, arith, true, false}
+use Rattle.std.proofs.Common.{◌≡◌, ◌+◌, ◌*◌, ◌≤◌, ◌∙◌, IsTrue, length, sym, subst, arith}
 use Rattle.std.proofs.lemmas.Bool.{false≢true}
-use Rattle.board_core.specs.Flash.{IsErased, range, erased_page}
-use Rattle.board_core.proofs.OverlaidRanges.{length-range}
+use Rattle.board_core.specs.Flash.{IsErased, range}
 use Rattle.board_core.proofs.TornRange.{filled_is}
 use Rattle.make_core.proofs.Blank.{erased_page-only}
 use Rattle.make_core.proofs.PageWrites.{blanks_failed, blanks_already, blanks_erased}

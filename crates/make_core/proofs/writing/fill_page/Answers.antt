@@ -1,4 +1,4 @@
-use Rattle.std.proofs.Common.{◌≡◌, ◌+◌, ◌*◌, ◌≤◌, ◌∙◌, List, ℕ, IsTrue, length, ap, sym, subst, arith, true, false}
+use Rattle.std.proofs.Common.{◌*◌, ◌∙◌, sym, arith}
 use Rattle.std.proofs.lemmas.Bool.{false≢true}
 use Rattle.board_core.specs.Flash.{IsErased}
 use Rattle.make_core.proofs.Blank.{erased_page-only}

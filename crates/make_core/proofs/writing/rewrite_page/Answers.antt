@@ -1,4 +1,4 @@
-use Rattle.std.proofs.Common.{◌≡◌, ◌+◌, ◌*◌, ◌≤◌, ◌∙◌, List, ℕ, IsTrue, length, ap, sym, subst, arith, true, false}
+use Rattle.std.proofs.Common.{◌*◌, arith}
 use Rattle.make_core.proofs.PageWrites.{rewrites_stopped, rewrites_then}
 use Rattle.make_core.proofs.writing.rewrite_page.Goals as goal
 

@@ -1,5 +1,5 @@
-use Rattle.std.proofs.Common.{◌≡◌, ◌+◌, ◌*◌, ◌≤◌, ◌∙◌, List, ℕ, IsTrue, length, ap, sym, subst, arith, true, false}
-use Rattle.board_core.specs.Flash.{FlashState, range}
+use Rattle.std.proofs.Common.{◌≡◌, ◌*◌, ◌∙◌, List, ℕ, subst, arith, true, false}
+use Rattle.board_core.specs.Flash.{range}
 use Rattle.make_core.specs.Layout.{machine_flash}
 use Rattle.make_core.specs.Pages.{RewritesPage}
 use Rattle.make_core.proofs.FlashPages.{length-machine_flash}

@@ -15,6 +15,8 @@ mod putting;
 mod rows;
 mod slot;
 mod spaces;
+#[cfg(test)]
+mod tests;
 mod writing;
 
 pub use making::{MakeFault, make};

@@ -33,7 +33,8 @@ signed_keyblock number flags key_tag = codes "CHROMEOS" ++ words (keyblock_head 
 
 -- a keyblock: what is signed, the hash of it, and its signature
 unfoldable pub keyblock : ℕ → ℕ → ℕ → ℕ → List ℕ
-keyblock number flags key_tag tag = signed_keyblock number flags key_tag ++ sha512 (signed_keyblock number flags key_tag) ++ fill number tag 256
+keyblock number flags key_tag tag =
+    signed_keyblock number flags key_tag ++ sha512 (signed_keyblock number flags key_tag) ++ fill number tag 256
 
 -- how many bytes the body of a slot has
 abbrev pub body_size : ℕ → ℕ
@@ -42,11 +43,13 @@ body_size number = 65536 + 512 * (number % 64)
 -- the head of a firmware preamble of a body of this size: size, reserved; signature; version 2.1; the firmware's version,
 -- reserved; kernel subkey; signature of the body; flags
 abbrev pub preamble_head : ℕ → ℕ → List ℕ
-preamble_head number size = 1140 ∷ 0 ∷ (signature_head 876 256 884 ++ 2 ∷ 1 ∷ (1 + number % 8) ∷ 0 ∷ (key_head 60 ++ signature_head 548 256 size ++ 0 ∷ []))
+preamble_head number size =
+    1140 ∷ 0 ∷ (signature_head 876 256 884 ++ 2 ∷ 1 ∷ (1 + number % 8) ∷ 0 ∷ (key_head 60 ++ signature_head 548 256 size ++ 0 ∷ []))
 
 -- what is signed of a preamble: its head, the bytes of the kernel subkey, and the signature of the body
 unfoldable pub signed_preamble : ℕ → ℕ → List ℕ
-signed_preamble number body_signature = words (preamble_head number (body_size number)) ++ fill number 4 520 ++ fill number body_signature 256
+signed_preamble number body_signature =
+    words (preamble_head number (body_size number)) ++ fill number 4 520 ++ fill number body_signature 256
 
 -- a preamble: what is signed, and its signature
 unfoldable pub preamble : ℕ → ℕ → ℕ → List ℕ

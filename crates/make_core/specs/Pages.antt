@@ -25,7 +25,8 @@ pub record FillsPage (at : ℕ) (meant : List ℕ) (old new : FlashState) (faile
   pub told : new.medium.told ≡ old.medium.told
   pub needed : calls ≤ unless_blank meant
   pub whole : failed ≡ false → calls ≡ unless_blank meant
-  pub ok : IsTrue old.medium.told → range old.medium.bytes at 4096 ≡ erased_page → failed ≡ false → new.medium ≡ holding (spliced old.medium.bytes at meant) old.medium
+  pub ok : IsTrue old.medium.told → range old.medium.bytes at 4096 ≡ erased_page → failed ≡ false →
+      new.medium ≡ holding (spliced old.medium.bytes at meant) old.medium
   pub err : IsTrue old.medium.told → IsTrue failed → LeftTorn at meant old.medium new.medium
 
 -- The page from a place was made to hold these bytes, or the flash failed.

@@ -1,5 +1,5 @@
--- What is left of a flash by a call that makes its pages those of an image. A page that is as it is to be is made all the
--- same: each page is erased once, unless it is erased already, and programmed once, unless it is to be erased.
+-- What is left of a flash by a call that makes its pages those of an image. Each page is erased, unless it is erased
+-- already, and then programmed, unless it is to stay erased.
 use Rattle.std.specs.Prelude.{◌≡◌, ◌⊎◌, ℕ, zero, suc, ◌+◌, ◌*◌, ◌<◌, ◌≤◌, ◌==◌, List, ◌++◌, take, drop, Bool, false, IsTrue, if◌then◌else◌}
 use Rattle.std.specs.List.{list_all}
 use Rattle.board_core.specs.Counters.{MadeChanges}
@@ -49,4 +49,5 @@ pub record WritesFlash (image : List ℕ) (old new : FlashState) (failed : Bool)
   pub ok : IsTrue old.medium.told → failed ≡ false → new.medium ≡ holding image old.medium
   -- the pages before some page are the image's, and those behind it are as they were
   pub err : IsTrue old.medium.told → IsTrue failed →
-      (page : ℕ) × (page < 256) × LeftInPage (page * 4096) (range image (page * 4096) 4096) (holding (begun (page * 4096) image old.medium.bytes) old.medium) new.medium
+      (page : ℕ) × (page < 256)
+      × LeftInPage (page * 4096) (range image (page * 4096) 4096) (holding (begun (page * 4096) image old.medium.bytes) old.medium) new.medium

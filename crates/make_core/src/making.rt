@@ -37,9 +37,11 @@ pub fn make<F: Flash, T: Tpm, D: Disk, E: Disk, H: Hook>(
     p: &mut Platform<F, T, D, E, H>,
     number: u32,
 ) -> Result<(), MakeFault>
-    ensures size { IsErrOf result (MakeFault.Size Device.Flash) ↔ ((world F.state T.state H.state p.old).flash.medium.size ≢ 1048576) }
+    ensures size { IsErrOf result (MakeFault.Size Device.Flash) ↔
+        ((world F.state T.state H.state p.old).flash.medium.size ≢ 1048576) }
     ensures causes { IfErr result (HasCause number (world F.state T.state H.state p.old) (world F.state T.state H.state p.new)) }
-    ensures full { let old = world F.state T.state H.state p.old in IsTrue old.hook.told → LacksRoom (machine_rows number) old.hook.rows → IsErr result }
+    ensures full { let old = world F.state T.state H.state p.old in
+        IsTrue old.hook.told → LacksRoom (machine_rows number) old.hook.rows → IsErr result }
     ensures ok { OnOk result (IsMade number (world F.state T.state H.state p.old) (world F.state T.state H.state p.new)) }
     ensures err { IfErr result (LeftBy number (world F.state T.state H.state p.old) (world F.state T.state H.state p.new)) }
     ensures counters { CountsOf (world F.state T.state H.state p.old) (world F.state T.state H.state p.new) result }

@@ -1,0 +1,21 @@
+use Rattle.std.proofs.Common.{◌≡◌, ◌∙◌, [], ◌∷◌, ap}
+use Rattle.sha2.specs.Sha256.{sha256}
+use Rattle.board_core.specs.declared.hook_row.HookRow.{HookRow}
+use Rattle.make_core.specs.Firmware.{signed_keyblock, signed_preamble, body}
+use Rattle.make_core.specs.Rows.{signed_row}
+use Rattle.make_core.proofs.RowsMade.{row_is}
+use Rattle.make_core.proofs.rows.make_slot_rows.Goals as goal
+
+pub returns : goal.returns
+returns c =
+    let number = c.args.number in
+    let tags = c.args.tags.now in
+    let keyblock : c.make_row-keyblock.result ≡ signed_row number 1 (signed_keyblock number 7 3) tags.keyblock =
+    row_is number 1 _ (signed_keyblock number 7 3) tags.keyblock _ c.make_row-keyblock.ensures (c.digest.ensures ∙ ap sha256 c.make_signed_keyblock-signed.ensures) in
+    let preamble : c.make_row-preamble.result ≡ signed_row number 3 (signed_preamble number tags.body_signature) tags.preamble =
+    row_is number 3 _ (signed_preamble number tags.body_signature) tags.preamble _ c.make_row-preamble.ensures (c.digest-2.ensures ∙ ap sha256 c.make_signed_preamble-signed.ensures) in
+    let last : c.make_row-body.result ≡ signed_row number 3 (body number tags) tags.body_signature =
+    row_is number 3 _ (body number tags) tags.body_signature _ c.make_row-body.ensures c.body_digest-digest.ensures in
+    ap (λ (r : HookRow). r ∷ c.make_row-preamble.result ∷ c.make_row-body.result ∷ []) keyblock
+    ∙ ap (λ (r : HookRow). signed_row number 1 (signed_keyblock number 7 3) tags.keyblock ∷ r ∷ c.make_row-body.result ∷ []) preamble
+    ∙ ap (λ (r : HookRow). signed_row number 1 (signed_keyblock number 7 3) tags.keyblock ∷ signed_row number 3 (signed_preamble number tags.body_signature) tags.preamble ∷ r ∷ []) last

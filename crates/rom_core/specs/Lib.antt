@@ -1,3 +1,5 @@
+pub mod Decoded
+pub mod Faults
 pub mod Gbb
 pub mod Map
 pub mod MapFits

@@ -1,4 +1,6 @@
 // What can be wrong with a flash map or a GBB.
+ghost use Rattle.std.specs.Prelude.{◌≡◌};
+ghost use Rattle.rom_core.specs.Faults.{map_fault_number, gbb_fault_number};
 
 /// What is wrong with a flash map, numbered by the lines of its table. The fault of a map is the first line whose test
 /// holds.
@@ -33,4 +35,22 @@ pub enum GbbFault {
     /// The HWID or a key begins inside the head or ends past the area; the HWID has no byte or over 256; or a key's range
     /// does not hold its structure and, behind it, its bytes.
     Outside = 4,
+}
+
+impl MapFault {
+    /// The line of the map table, 1 to 7.
+    pub fn number(self) -> u8
+        ensures { result ≡ map_fault_number self }
+    {
+        self as u8
+    }
+}
+
+impl GbbFault {
+    /// The line of the GBB's table, 1 to 4.
+    pub fn number(self) -> u8
+        ensures { result ≡ gbb_fault_number self }
+    {
+        self as u8
+    }
 }

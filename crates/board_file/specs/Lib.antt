@@ -1,2 +1,3 @@
 pub mod HookFile
 pub mod HookAnswer
+pub mod Files

@@ -1,15 +1,12 @@
 // A flash over a file, or any other stream with places. It tells no content: what a file keeps is not claimed.
 ghost use Rattle.std.specs.Prelude.{◌≡◌, IfOk};
 
-use crate::open_fault::OpenFault;
+use crate::open_fault::{BoardFile, OpenFault};
 use crate::place::put_in_place;
 use board_core::{Failed, Flash, make_erased_page, raise};
 use std::fs::{File, Files, OpenOptions};
 use std::io;
 use std::io::{Read, Seek, SeekFrom, Write};
-
-/// The file of the flash.
-pub const FLASH_FILE: &str = "flash.bin";
 
 const NEW_FLASH_FILE: &str = "flash.bin.new";
 
@@ -47,7 +44,7 @@ pub fn open_flash<R: Files>(files: &R, pages: u32) -> Result<FileFlash<R::File>,
 {
     match open_or_make(files, pages) {
         Ok(flash) => Ok(flash),
-        Err(_) => Err(OpenFault::CannotOpen(FLASH_FILE)),
+        Err(_) => Err(OpenFault::CannotOpen(BoardFile::Flash)),
     }
 }
 
@@ -56,10 +53,10 @@ fn open_or_make<R: Files>(files: &R, pages: u32) -> io::Result<FileFlash<R::File
 {
     let mut options = OpenOptions::new();
     options.read(true).write(true);
-    let mut file = match options.open(files, FLASH_FILE) {
+    let mut file = match options.open(files, BoardFile::Flash.name()) {
         Err(e) if e.kind() == io::ErrorKind::NotFound => {
             make_erased(files, pages)?;
-            options.open(files, FLASH_FILE)?
+            options.open(files, BoardFile::Flash.name())?
         }
         opened => opened?,
     };
@@ -76,7 +73,7 @@ fn make_erased<R: Files>(files: &R, pages: u32) -> io::Result<()> {
     for _ in 0..pages {
         file.write_all(&blank)?;
     }
-    put_in_place(files, file, NEW_FLASH_FILE, FLASH_FILE)
+    put_in_place(files, file, NEW_FLASH_FILE, BoardFile::Flash.name())
 }
 
 fn read_at<S: Read + Seek>(stream: &mut S, at: u64, buf: &mut [u8]) -> Result<(), Failed> {

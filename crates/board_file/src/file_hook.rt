@@ -5,15 +5,12 @@ ghost use Rattle.std.specs.Prelude.{◌≡◌, ◌≤◌, vec_len, IfOk};
 use crate::hook_file::read_hook;
 use crate::hook_file_fault::HookFileFault;
 use crate::hook_text::text_of_rows;
-use crate::open_fault::OpenFault;
+use crate::open_fault::{BoardFile, OpenFault};
 use crate::place::replace_file;
 use board_core::{EnrollFault, Failed, Hook, HookRow, MOST_ROWS, has_row, is_accepted, raise};
 use std::alloc::Global;
 use std::fs::Files;
 use std::{fs, io};
-
-/// The file of accepted signatures.
-pub const HOOK_FILE: &str = "hook.toml";
 
 const NEW_HOOK_FILE: &str = "hook.toml.new";
 
@@ -52,19 +49,19 @@ impl<'a, R: Files + AllocGlobal> FileHook<'a, R> {
 fn read_rows<R: Files + AllocGlobal>(files: &R) -> Result<Vec<HookRow>, OpenFault>
     ensures few { IfOk result (λ rows. vec_len rows ≤ 4096) }
 {
-    let text = match fs::read_to_string(files, HOOK_FILE) {
+    let text = match fs::read_to_string(files, BoardFile::Hook.name()) {
         Ok(text) => text,
         Err(e) => {
             return match e.kind() {
                 io::ErrorKind::NotFound => Ok(Vec::new(files.alloc())),
                 io::ErrorKind::OutOfMemory => Err(OpenFault::Memory),
-                _ => Err(OpenFault::CannotOpen(HOOK_FILE)),
+                _ => Err(OpenFault::CannotOpen(BoardFile::Hook)),
             };
         }
     };
     match read_hook(files.alloc(), &text) {
         Ok(rows) => Ok(rows),
-        Err(HookFileFault::BadHookFile(_)) => Err(OpenFault::CannotOpen(HOOK_FILE)),
+        Err(HookFileFault::BadHookFile(_)) => Err(OpenFault::CannotOpen(BoardFile::Hook)),
         Err(HookFileFault::Memory) => Err(OpenFault::Memory),
     }
 }
@@ -103,7 +100,7 @@ impl<R: Files> Hook for FileHook<'_, R> {
         let Ok(text) = text_of_rows(self.alloc, &self.rows, row) else {
             return Err(EnrollFault::Memory);
         };
-        if replace_file(self.files, HOOK_FILE, NEW_HOOK_FILE, &text).is_err() {
+        if replace_file(self.files, BoardFile::Hook.name(), NEW_HOOK_FILE, &text).is_err() {
             self.faults = raise(self.faults);
             return Err(EnrollFault::Failed);
         }

@@ -1,7 +1,7 @@
 // A TPM over two files of the current folder. It tells no content: what a file keeps is not claimed.
 ghost use Rattle.std.specs.Prelude.{◌≡◌, ◌≤◌, false, IfOk};
 
-use crate::open_fault::OpenFault;
+use crate::open_fault::{BoardFile, OpenFault};
 use crate::place::replace_file;
 use board_core::{Failed, Space, Tpm, raise};
 use std::fs::{File, Files};
@@ -11,13 +11,7 @@ use std::io::Read;
 /// The greatest number of bytes of a space.
 const SPACE_SIZE: usize = 64;
 
-/// The file of the firmware space.
-pub const FIRMWARE_FILE: &str = "tpm_fw.bin";
-
 const NEW_FIRMWARE_FILE: &str = "tpm_fw.bin.new";
-
-/// The file of the kernel space.
-pub const KERNEL_FILE: &str = "tpm_kernel.bin";
 
 const NEW_KERNEL_FILE: &str = "tpm_kernel.bin.new";
 
@@ -43,7 +37,7 @@ impl<'a, R: Files> FileTpm<'a, R> {
     {
         let mut buf = [0; SPACE_SIZE];
         for space in [Space::Firmware, Space::Kernel] {
-            if read_file(files, file_of(space), &mut buf).is_err() {
+            if read_file(files, file_of(space).name(), &mut buf).is_err() {
                 return Err(OpenFault::CannotOpen(file_of(space)));
             }
         }
@@ -57,10 +51,10 @@ impl<'a, R: Files> FileTpm<'a, R> {
     }
 }
 
-fn file_of(space: Space) -> &'static str {
+fn file_of(space: Space) -> BoardFile {
     match space {
-        Space::Firmware => FIRMWARE_FILE,
-        Space::Kernel => KERNEL_FILE,
+        Space::Firmware => BoardFile::FirmwareSpace,
+        Space::Kernel => BoardFile::KernelSpace,
     }
 }
 
@@ -97,7 +91,7 @@ fn read_file<R: Files>(files: &R, name: &str, buf: &mut [u8; 64]) -> Result<usiz
 }
 
 fn write_file<R: Files>(files: &R, space: Space, bytes: &[u8]) -> Result<(), Failed> {
-    if replace_file(files, file_of(space), new_file_of(space), bytes).is_err() {
+    if replace_file(files, file_of(space).name(), new_file_of(space), bytes).is_err() {
         return Err(Failed);
     }
     Ok(())
@@ -122,7 +116,7 @@ impl<R: Files> Tpm for FileTpm<'_, R> {
     }
 
     fn read(&mut self, space: Space, buf: &mut [u8; 64]) -> Result<usize, Failed> {
-        let Ok(count) = read_file(self.files, file_of(space), buf) else {
+        let Ok(count) = read_file(self.files, file_of(space).name(), buf) else {
             self.faults = raise(self.faults);
             return Err(Failed);
         };

@@ -3,7 +3,7 @@
 //! - `file_flash`, `file_tpm`, `file_hook`, `std_source` and `std_sink` have a device each, which counts its failures. They
 //!   tell no content, but for the rows in memory of a hook: what a file keeps is not claimed.
 //! - `hook_file` reads the file of accepted signatures, `hook_file_fault` says why it did not, and `hook_text` writes it.
-//! - `place` makes a file anew, and `open_fault` says why one was not opened.
+//! - `place` makes a file anew, and `open_fault` names the files and says why one was not opened.
 #![tactic(auto)]
 
 mod file_flash;
@@ -21,11 +21,11 @@ mod std_source;
 #[cfg(test)]
 mod tests;
 
-pub use file_flash::{FLASH_FILE, FileFlash, open_flash};
-pub use file_hook::{FileHook, HOOK_FILE};
-pub use file_tpm::{FIRMWARE_FILE, FileTpm, KERNEL_FILE};
+pub use file_flash::{FileFlash, open_flash};
+pub use file_hook::FileHook;
+pub use file_tpm::FileTpm;
 pub use hook_file::read_hook;
 pub use hook_file_fault::HookFileFault;
-pub use open_fault::OpenFault;
+pub use open_fault::{BoardFile, OpenFault};
 pub use std_sink::StdSink;
 pub use std_source::StdSource;

@@ -3,10 +3,7 @@ ghost use Rattle.std.specs.Prelude.{IsTrue};
 ghost use Rattle.board_core.specs.HookRow.{is_digest_size};
 
 use crate::hook_file_tests::{SHORT_OF_ABC, SHORT_OF_NOTHING};
-use crate::{
-    FIRMWARE_FILE, FLASH_FILE, FileFlash, FileHook, FileTpm, HOOK_FILE, KERNEL_FILE, OpenFault,
-    StdSink, StdSource, open_flash,
-};
+use crate::{BoardFile, FileFlash, FileHook, FileTpm, OpenFault, StdSink, StdSource, open_flash};
 use board_core::{EnrollFault, Flash, Hook, HookRow, Sink, Source, Space, Tpm};
 use std::fs;
 use std::fs::File;
@@ -15,7 +12,7 @@ use std::test::Fail;
 
 #[test]
 fn a_flash(rt: HostRuntime) -> Result<(), Fail> {
-    let _ = fs::remove_file(&rt, FLASH_FILE);
+    let _ = fs::remove_file(&rt, "flash.bin");
     let mut flash = open_flash(&rt, 2).ok().ok_or("a flash is made")?;
     assert!(rt; flash.size() == 8192);
     assert!(rt; flash.program(16, &[1, 2, 3]).is_ok());
@@ -30,30 +27,40 @@ fn a_flash(rt: HostRuntime) -> Result<(), Fail> {
     expected[16..19].copy_from_slice(&[1, 2, 3]);
     expected[4095] = 5;
     expected[4100] = 4;
-    assert!(rt; fs::read(&rt, FLASH_FILE)?.as_slice() == expected.as_slice());
+    assert!(rt; fs::read(&rt, "flash.bin")?.as_slice() == expected.as_slice());
     // A file that stands is opened as it is.
-    fs::write(&rt, FLASH_FILE, &[6, 7, 8][..])?;
+    fs::write(&rt, "flash.bin", &[6, 7, 8][..])?;
     let mut flash = open_flash(&rt, 2).ok().ok_or("a flash is opened")?;
     assert!(rt; flash.size() == 3);
     let mut seen = [0; 3];
     assert!(rt; flash.read(0, &mut seen).is_ok());
     assert_eq!(rt; seen, [6, 7, 8]);
-    fs::remove_file(&rt, FLASH_FILE)?;
+    fs::remove_file(&rt, "flash.bin")?;
     // A folder is none.
-    fs::create_dir(&rt, FLASH_FILE)?;
-    assert!(rt; matches!(open_flash(&rt, 1), Err(OpenFault::CannotOpen("flash.bin"))));
-    fs::remove_dir(&rt, FLASH_FILE)?;
+    fs::create_dir(&rt, "flash.bin")?;
+    assert!(rt;
+        matches!(
+            open_flash(&rt, 1),
+            Err(OpenFault::CannotOpen(BoardFile::Flash))
+        )
+    );
+    fs::remove_dir(&rt, "flash.bin")?;
     // Nor is a file of more bytes than a u32 counts, here one without content.
-    File::create(&rt, FLASH_FILE)?.set_len(1 << 32)?;
-    assert!(rt; matches!(open_flash(&rt, 1), Err(OpenFault::CannotOpen("flash.bin"))));
-    fs::remove_file(&rt, FLASH_FILE)?;
+    File::create(&rt, "flash.bin")?.set_len(1 << 32)?;
+    assert!(rt;
+        matches!(
+            open_flash(&rt, 1),
+            Err(OpenFault::CannotOpen(BoardFile::Flash))
+        )
+    );
+    fs::remove_file(&rt, "flash.bin")?;
     Ok(())
 }
 
 #[test]
 fn a_tpm(rt: HostRuntime) -> Result<(), Fail> {
-    let _ = fs::remove_file(&rt, FIRMWARE_FILE);
-    let _ = fs::remove_file(&rt, KERNEL_FILE);
+    let _ = fs::remove_file(&rt, "tpm_fw.bin");
+    let _ = fs::remove_file(&rt, "tpm_kernel.bin");
     let mut buf = [0; 64];
     let mut tpm = FileTpm::open(&rt).ok().ok_or("a TPM of missing files")?;
     assert!(rt; tpm.startup().is_ok());
@@ -62,15 +69,18 @@ fn a_tpm(rt: HostRuntime) -> Result<(), Fail> {
     assert!(rt; tpm.write(Space::Firmware, &[1, 2, 3]).is_ok());
     assert!(rt; tpm.write(Space::Firmware, &[4, 5]).is_ok());
     assert!(rt; tpm.write(Space::Kernel, &[6; 64]).is_ok());
-    assert_eq!(rt; fs::read(&rt, FIRMWARE_FILE)?.as_slice(), [4, 5].as_slice());
-    assert_eq!(rt; fs::read(&rt, KERNEL_FILE)?.as_slice(), [6; 64].as_slice());
+    assert_eq!(rt; fs::read(&rt, "tpm_fw.bin")?.as_slice(), [4, 5].as_slice());
+    assert_eq!(rt;
+        fs::read(&rt, "tpm_kernel.bin")?.as_slice(),
+        [6; 64].as_slice()
+    );
     let mut tpm = FileTpm::open(&rt).ok().ok_or("a TPM is opened")?;
     assert_eq!(rt; tpm.read(Space::Firmware, &mut buf), Ok(2));
     assert_eq!(rt; &buf[..2], [4, 5].as_slice());
     assert_eq!(rt; tpm.read(Space::Kernel, &mut buf), Ok(64));
     assert_eq!(rt; buf, [6; 64]);
     // The file is made anew and takes the place of the old one, which still has its bytes.
-    let mut old = File::open(&rt, FIRMWARE_FILE)?;
+    let mut old = File::open(&rt, "tpm_fw.bin")?;
     assert!(rt; tpm.write(Space::Firmware, &[4, 5, 6]).is_ok());
     let mut seen = [0; 4];
     assert_eq!(rt; old.read(&mut seen)?, 2);
@@ -80,22 +90,27 @@ fn a_tpm(rt: HostRuntime) -> Result<(), Fail> {
     assert!(rt; tpm.write(Space::Firmware, &[8]).is_err());
     fs::remove_dir(&rt, "tpm_fw.bin.new")?;
     assert_eq!(rt;
-        fs::read(&rt, FIRMWARE_FILE)?.as_slice(),
+        fs::read(&rt, "tpm_fw.bin")?.as_slice(),
         [4, 5, 6].as_slice()
     );
     // A space has at most 64 bytes.
-    fs::write(&rt, KERNEL_FILE, &[7; 65][..])?;
+    fs::write(&rt, "tpm_kernel.bin", &[7; 65][..])?;
     assert!(rt; tpm.read(Space::Kernel, &mut buf).is_err());
     assert!(rt;
         matches!(
             FileTpm::open(&rt),
-            Err(OpenFault::CannotOpen("tpm_kernel.bin"))
+            Err(OpenFault::CannotOpen(BoardFile::KernelSpace))
         )
     );
-    fs::write(&rt, FIRMWARE_FILE, &[7; 65][..])?;
-    assert!(rt; matches!(FileTpm::open(&rt), Err(OpenFault::CannotOpen("tpm_fw.bin"))));
-    fs::remove_file(&rt, FIRMWARE_FILE)?;
-    fs::remove_file(&rt, KERNEL_FILE)?;
+    fs::write(&rt, "tpm_fw.bin", &[7; 65][..])?;
+    assert!(rt;
+        matches!(
+            FileTpm::open(&rt),
+            Err(OpenFault::CannotOpen(BoardFile::FirmwareSpace))
+        )
+    );
+    fs::remove_file(&rt, "tpm_fw.bin")?;
+    fs::remove_file(&rt, "tpm_kernel.bin")?;
     Ok(())
 }
 
@@ -114,7 +129,7 @@ fn row_of_abc(algorithm: u32, digest_len: u8) -> HookRow
 
 #[test]
 fn a_hook(rt: HostRuntime) -> Result<(), Fail> {
-    let _ = fs::remove_file(&rt, HOOK_FILE);
+    let _ = fs::remove_file(&rt, "hook.toml");
     let mut hook = FileHook::open(&rt).ok().ok_or("a hook of a missing file")?;
     assert_eq!(rt; hook.verify(9, b"abc", &[0; 32], b""), Ok(false));
     assert_eq!(rt; hook.enroll(&row_of_abc(9, 32)), Ok(()));
@@ -135,15 +150,20 @@ fn a_hook(rt: HostRuntime) -> Result<(), Fail> {
     }
     assert_eq!(rt; hook.verify(9, b"abd", &[0; 32], b""), Ok(false));
     // An enrolment that fails leaves the rows and the file.
-    let before = fs::read(&rt, HOOK_FILE)?;
+    let before = fs::read(&rt, "hook.toml")?;
     fs::create_dir(&rt, "hook.toml.new")?;
     assert_eq!(rt; hook.enroll(&row_of_abc(10, 32)), Err(EnrollFault::Failed));
     fs::remove_dir(&rt, "hook.toml.new")?;
     assert_eq!(rt; hook.verify(10, b"abc", &[0; 32], b""), Ok(false));
-    assert!(rt; fs::read(&rt, HOOK_FILE)?.as_slice() == before.as_slice());
-    fs::write(&rt, HOOK_FILE, "row = 1")?;
-    assert!(rt; matches!(FileHook::open(&rt), Err(OpenFault::CannotOpen("hook.toml"))));
-    fs::remove_file(&rt, HOOK_FILE)?;
+    assert!(rt; fs::read(&rt, "hook.toml")?.as_slice() == before.as_slice());
+    fs::write(&rt, "hook.toml", "row = 1")?;
+    assert!(rt;
+        matches!(
+            FileHook::open(&rt),
+            Err(OpenFault::CannotOpen(BoardFile::Hook))
+        )
+    );
+    fs::remove_file(&rt, "hook.toml")?;
     Ok(())
 }
 

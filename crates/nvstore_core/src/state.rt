@@ -1,5 +1,5 @@
 // What the store knows of its two pages.
-ghost use Rattle.std.specs.Prelude.{◌≡◌, ◌↔◌, IsTrue};
+ghost use Rattle.std.specs.Prelude.{◌≡◌, ◌&&◌, bytes_eq};
 
 use record_core::Nv;
 
@@ -21,7 +21,7 @@ pub struct NvState {
 impl NvState {
     /// Whether a good record stands and it is this one.
     pub fn holds(&self, nv: &Nv) -> bool
-        ensures { IsTrue result ↔ (IsTrue self.now.stands × (self.now.nv ≡ nv.now)) }
+        ensures { result ≡ (self.now.stands && bytes_eq self.now.nv nv.now) }
     {
         self.stands && self.nv.bytes() == nv.bytes()
     }

@@ -1,0 +1,22 @@
+-- What is fair of the whole of a step is fair of its part that failed, where no range was torn before.
+use Rattle.std.proofs.Common.{◌≡◌, ℕ, List, refl, sym, ap, subst, ◌∙◌}
+use Rattle.board_core.specs.Torn.{Logs, added}
+use Rattle.board_core.specs.Flash.{FlashMedium}
+use Rattle.board_core.specs.Disk.{DiskMedium, overlaid}
+use Rattle.nvstore_core.specs.Fair.{IsFairFlash, IsFairIn}
+use Rattle.boot_core.specs.Table.{PartitionTable, IsFairTable, IsFairDisk}
+
+pub fair_flash_from : (area : ℕ) (old mid new : FlashMedium) → mid.torn ≡ old.torn → IsFairFlash area old new → IsFairFlash area mid new
+fair_flash_from area old mid new same fair =
+    let moved : IsFairFlash area (record mid { torn = old.torn }) new = record { pages = record { each = fair.pages.each } } in
+    subst (λ (logs : Logs). IsFairFlash area (record mid { torn = logs }) new) (sym same) moved
+
+pub fair_disk_from : (table : PartitionTable) (old mid new : DiskMedium) → mid.sectors ≡ old.sectors → mid.bytes ≡ old.bytes → mid.torn ≡ old.torn → IsFairDisk table old new → IsFairDisk table mid new
+fair_disk_from table old mid new sectors bytes torn fair =
+    let left : overlaid mid.bytes (added mid.torn new.torn) ≡ overlaid old.bytes (added old.torn new.torn) =
+    ap (λ (b : List ℕ). overlaid b (added mid.torn new.torn)) bytes ∙ ap (λ (logs : Logs). overlaid old.bytes (added logs new.torn)) torn in
+    record {
+      copies = subst (λ (n : ℕ). IsFairTable n table mid.bytes (overlaid mid.bytes (added mid.torn new.torn))) (sym sectors)
+          (subst (λ (b : List ℕ). IsFairTable old.sectors table b (overlaid mid.bytes (added mid.torn new.torn))) (sym bytes)
+          (subst (λ (l : List ℕ). IsFairTable old.sectors table old.bytes l) (sym left) fair.copies));
+    }

@@ -1,0 +1,28 @@
+-- A fault of the map, a fault while reading, and a plan that was carried out.
+use Rattle.std.proofs.Common.{◌≡◌, ℕ, Result, Ok, Err, subst}
+use Rattle.board_core.specs.World.{World, world}
+use Rattle.rom_core.specs.declared.fault.MapFault.{MapFault}
+use Rattle.boot_core.specs.declared.found.Found.{Found}
+use Rattle.boot_core.specs.Steps.{ReadsBoard}
+use Rattle.boot_core.proofs.Whole.{boots_unread, boots_bad_flash, boots_planned}
+use Rattle.boot_core.proofs.booting.boot.Goals as goal
+
+pub returns-in-Ok-Err : goal.returns-in-Ok-Err
+returns-in-Ok-Err g c =
+    let old : World = world g.F.Flash.state g.T.Tpm.state g.H.Hook.state c.args.p.now in
+    let new : World = world g.F.Flash.state g.T.Tpm.state g.H.Hook.state c.read_board.new.p in
+    boots_bad_flash c.args.sw old new c.in-Ok-Err.fault c.requires (subst (λ (r : Result Found MapFault). ReadsBoard old new (Ok r)) c.in-Ok-Err.field-0-is c.in-Ok-Err.ensures)
+
+pub returns-in-Err : goal.returns-in-Err
+returns-in-Err g c =
+    let old : World = world g.F.Flash.state g.T.Tpm.state g.H.Hook.state c.args.p.now in
+    let new : World = world g.F.Flash.state g.T.Tpm.state g.H.Hook.state c.read_board.new.p in
+    boots_unread c.args.sw old new c.in-Err.fault c.requires c.in-Err.ensures
+
+pub returns : goal.returns
+returns g c =
+    let old : World = world g.F.Flash.state g.T.Tpm.state g.H.Hook.state c.args.p.now in
+    let mid : World = world g.F.Flash.state g.T.Tpm.state g.H.Hook.state c.read_board.new.p in
+    let new : World = world g.F.Flash.state g.T.Tpm.state g.H.Hook.state c.carry_out.new.p in
+    boots_planned c.args.sw old mid new c.in-Ok-Ok.found c.plan_boot-plan.result c.carry_out.result c.requires
+    (subst (λ (r : Result Found MapFault). ReadsBoard old mid (Ok r)) c.in-Ok-Ok.field-0-is c.in-Ok-Ok.ensures) c.plan_boot-plan.ensures.plan c.plan_boot-plan.ensures.version c.carry_out.ensures

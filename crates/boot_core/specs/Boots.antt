@@ -1,0 +1,168 @@
+-- What a boot does to its board.
+use Rattle.std.specs.Prelude.{◌≡◌, ◌⊎◌, ℕ, ◌+◌, ◌<◌, ◌≤◌, List, [], ◌∷◌, length, take, drop, fold, Bool, IsTrue, IsSome, Option, Some, None, Result, Ok, Err, IfOk, OnOk, IfErr}
+use Rattle.record_core.specs.Space.{firmware_fault, kernel_fault, stored_firmware_version, stored_kernel_version}
+use Rattle.board_core.specs.declared.counters.FuseState.TheVariants.{Armed, Dead}
+use Rattle.board_core.specs.declared.device.Device.{Device}
+use Rattle.board_core.specs.declared.device.Fault.{Fault}
+use Rattle.board_core.specs.Counters.{Rose}
+use Rattle.board_core.specs.Tpm.{Spaces}
+use Rattle.board_core.specs.World.{World}
+use Rattle.rom_core.specs.declared.fault.MapFault.{MapFault}
+use Rattle.nvstore_core.specs.declared.state.NvState.{NvState}
+use Rattle.nvstore_core.specs.Pages.{record_in, empty_state}
+use Rattle.nvstore_core.specs.Saving.{KeepsWritten}
+use Rattle.nvstore_core.specs.Fair.{IsFairFlash}
+use Rattle.boot_core.specs.declared.switches.Switches.{Switches}
+use Rattle.boot_core.specs.declared.found.Found.{Found}
+use Rattle.boot_core.specs.declared.outcome.Outcome.{Outcome}
+use Rattle.boot_core.specs.declared.outcome.Outcome.TheVariants as outcome
+use Rattle.boot_core.specs.declared.plan.Plan.{Plan}
+use Rattle.boot_core.specs.Table.{PartitionTable, table_in, IsFairDisk}
+use Rattle.boot_core.specs.Changes.{Change, Firmware, Record, Table, Kernel, spaces_with, record_with, table_with, device_of, counters_on, calls_on}
+use Rattle.boot_core.specs.Carries.{Targets, CountsBoard, Frame, IsMade}
+use Rattle.boot_core.specs.Plan.{found_of, plan_of, changes_of, targets_at}
+use Rattle.boot_core.specs.Steps.{locks_at}
+
+-- ---- the plan
+
+-- The outcome of a boot and its changes in order, where they go, and the state of nvdata before them.
+pub record BootPlan : Type 0 where
+  pub outcome : Outcome
+  pub changes : List Change
+  pub to : Targets
+  pub state : NvState
+
+-- that of a plan over what was found
+abbrev pub boot_plan_of : Found → Plan → BootPlan
+boot_plan_of found plan = record { outcome = plan.outcome; changes = changes_of plan; to = targets_at found.area; state = found.state }
+
+-- that of a flash whose map has a fault: nothing is changed
+abbrev pub bad_flash_plan : MapFault → BootPlan
+bad_flash_plan fault = record { outcome = outcome.BadFlash fault; changes = []; to = targets_at 0; state = empty_state }
+
+abbrev pub boot_plan_by : Switches → Result Found MapFault → BootPlan
+boot_plan_by sw (Ok found) = boot_plan_of found (plan_of sw found)
+boot_plan_by sw (Err fault) = bad_flash_plan fault
+
+unfoldable pub boot_plan : Switches → World → BootPlan
+boot_plan sw w = boot_plan_by sw (found_of w)
+
+-- ---- the state that a board stands for
+
+pub record State : Type 0 where
+  -- the nvdata record that stands, or none
+  pub nv : Option (List ℕ)
+  pub spaces : Spaces
+  -- the partition table of the disk, or none
+  pub table : Option PartitionTable
+
+abbrev pub state_of : ℕ → World → State
+state_of area w = record { nv = record_in area w.flash.medium.bytes; spaces = w.tpm.spaces; table = table_in w.disk.medium.sectors w.disk.medium.bytes }
+
+abbrev pub changed_state : PartitionTable → State → Change → State
+changed_state table s change = record { nv = record_with s.nv change; spaces = spaces_with s.spaces change; table = table_with table s.table change }
+
+-- the state after so many changes of a plan
+abbrev pub state_after : BootPlan → ℕ → World → State
+state_after plan count w = fold (changed_state plan.to.table) (state_of plan.to.area w) (take count plan.changes)
+
+-- the spaces after so many changes of a plan
+abbrev pub spaces_after : BootPlan → ℕ → Spaces → Spaces
+spaces_after plan count spaces = fold spaces_with spaces (take count plan.changes)
+
+-- all devices tell what they hold
+pub record IsTold (w : World) : Type 0 where
+  pub flash : IsTrue w.flash.medium.told
+  pub tpm : IsTrue w.tpm.told
+  pub disk : IsTrue w.disk.medium.told
+  pub stick : IsTrue w.stick.medium.told
+  pub hook : IsTrue w.hook.told
+
+-- ---- a fault
+
+-- The torn records that the boot added pass no check that they should not. It is a premise on the devices alone.
+pub record IsFair (plan : BootPlan) (old new : World) : Type 0 where
+  pub flash : IsFairFlash plan.to.area old.flash.medium new.flash.medium
+  pub disk : IsFairDisk plan.to.table old.disk.medium new.disk.medium
+
+-- The change after those that are done may have happened: it is one of the device that failed, in a changing call.
+pub record MayHaveMade (plan : BootPlan) (fault : Fault) (old new : World) : Type 0 where
+  pub next : Change
+  pub behind : List Change
+  pub place : drop fault.done plan.changes ≡ next ∷ behind
+  pub device : fault.device ≡ device_of next
+  pub broke : Rose (counters_on fault.device old).failed_changes (counters_on fault.device new).failed_changes
+
+-- the state is that after the changes that are done, or after one more
+abbrev pub LeavesPrefix : BootPlan → Fault → World → World → Type 0
+LeavesPrefix plan fault old new =
+    (state_of plan.to.area new ≡ state_after plan fault.done old)
+    ⊎ (MayHaveMade plan fault old new × (state_of plan.to.area new ≡ state_after plan (fault.done + 1) old))
+
+-- the same of the spaces alone
+abbrev pub LeavesSpaces : BootPlan → Fault → World → World → Type 0
+LeavesSpaces plan fault old new =
+    (new.tpm.spaces ≡ spaces_after plan fault.done old.tpm.spaces)
+    ⊎ (MayHaveMade plan fault old new × (new.tpm.spaces ≡ spaces_after plan (fault.done + 1) old.tpm.spaces))
+
+-- none of these changes stores a record
+abbrev pub HasNoRecord : List Change → Type 0
+HasNoRecord [] = Unit {0}
+HasNoRecord (Record r ∷ rest) = ⊥
+HasNoRecord (other ∷ rest) = HasNoRecord rest
+
+-- none of them writes the table
+abbrev pub HasNoTable : List Change → Type 0
+HasNoTable [] = Unit {0}
+HasNoTable (Table ∷ rest) = ⊥
+HasNoTable (other ∷ rest) = HasNoTable rest
+
+-- What a fault leaves.
+pub record AtFault (plan : BootPlan) (fault : Fault) (old new : World) : Type 0 where
+  -- so many changes are known to be whole
+  pub done : fault.done ≤ length plan.changes
+  pub prefix : IsTold old → IsFair plan old new → LeavesPrefix plan fault old new
+  -- whatever is torn: the spaces
+  pub spaces : IsTrue old.tpm.told → LeavesSpaces plan fault old new
+  -- the flash, where no record was to be stored by then
+  pub flash : IsTrue old.flash.medium.told → HasNoRecord (take (fault.done + 1) plan.changes) → new.flash.medium ≡ old.flash.medium
+  -- the bytes of the disk, where no table was to be written by then
+  pub disk : IsTrue old.disk.medium.told → HasNoTable (take (fault.done + 1) plan.changes) → new.disk.medium.bytes ≡ old.disk.medium.bytes
+  -- a stop that fell, fell in the change after those that are done
+  pub fell : (left keep : ℕ) → (counters_on fault.device old).stop ≡ Armed left keep → (counters_on fault.device new).stop ≡ Dead
+      → (calls_on fault.device plan.state (take fault.done plan.changes) < left) × (left ≤ calls_on fault.device plan.state (take (fault.done + 1) plan.changes))
+
+-- ---- versions
+
+-- a version that stands is not lower, and stands
+abbrev pub IsNoLower : Option ℕ → Option ℕ → Type 0
+IsNoLower None now = Unit {0}
+IsNoLower (Some version) None = ⊥
+IsNoLower (Some version) (Some now) = version ≤ now
+
+-- Neither stored version falls, and a space that has a fault keeps its bytes.
+pub record NeverFall (old new : Spaces) : Type 0 where
+  pub firmware : IsNoLower (stored_firmware_version old.firmware) (stored_firmware_version new.firmware)
+  pub kernel : IsNoLower (stored_kernel_version old.kernel) (stored_kernel_version new.kernel)
+  pub faulty_firmware : IsSome (firmware_fault old.firmware) → new.firmware ≡ old.firmware
+  pub faulty_kernel : IsSome (kernel_fault old.kernel) → new.kernel ≡ old.kernel
+
+-- ---- a boot
+
+-- One boot over a board.
+pub record Boots (sw : Switches) (old new : World) (answer : Result Outcome Fault) : Type 0 where
+  -- its plan is that of the board, where the devices tell what they hold
+  pub plan : BootPlan
+  pub planned : IsTold old → plan ≡ boot_plan sw old
+  -- the changing calls are those of its changes, and the one device that failed counted it
+  pub counts : CountsBoard (λ on. calls_on on plan.state plan.changes) old new answer
+  pub frame : Frame plan.to.area old new
+  -- what was written in the current page of nvdata stays
+  pub kept : IsTrue old.flash.medium.told → KeepsWritten plan.to.area plan.state old.flash.medium.bytes new.flash.medium.bytes
+  -- where no device fails, the outcome is that of the plan, all changes are made, and both spaces are locked or neither
+  pub outcome : IfOk answer (λ outcome. outcome ≡ plan.outcome)
+  pub made : OnOk answer (IsMade plan.to plan.changes old new)
+  pub locks : IfOk answer (λ outcome. new.tpm.locks ≡ locks_at outcome)
+  pub fault : IfErr answer (λ fault. AtFault plan fault old new)
+  -- at every answer
+  pub versions : IsTrue old.tpm.told → NeverFall old.tpm.spaces new.tpm.spaces

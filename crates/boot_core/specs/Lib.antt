@@ -1,0 +1,6 @@
+pub mod Table
+pub mod Changes
+pub mod Carries
+pub mod Plan
+pub mod Steps
+pub mod Boots

@@ -1,0 +1,85 @@
+// Reading what a board holds, before anything of it is changed.
+ghost use Rattle.std.specs.Prelude.{◌≡◌, IsTrue, OnOk, IfOk, IfErr};
+ghost use Rattle.rom_core.specs.MapFits.{FitsFlash};
+ghost use Rattle.board_core.specs.Tpm.{TpmState};
+ghost use Rattle.board_core.specs.World.{world};
+ghost use Rattle.boot_core.specs.Steps.{ReadsBoard, ReadsFound, ReadsSpaces};
+
+use crate::found::Found;
+use board_core::{Device, Disk, Failed, Fault, Flash, Hook, Platform, Space, Tpm};
+use nvstore_core::load;
+use record_core::{FwSpace, KernelSpace, SpaceFault};
+use rom_core::{Map, MapFault, read_gbb, read_map};
+
+// A fault of a device before any change.
+fn fault_of(device: Device) -> Fault
+    ensures { result ≡ record { device = device; done = 0 } }
+{
+    Fault { device, done: 0 }
+}
+
+/// Starts the TPM, and reads the map of the flash, nvdata, the GBB and both spaces. A fault of the map is answered before
+/// the rest is read.
+///
+/// A `Fault` is one of the flash or of the TPM, before any change.
+pub fn read_board<F: Flash, T: Tpm, D: Disk, E: Disk, H: Hook>(
+    p: &mut Platform<F, T, D, E, H>,
+) -> Result<Result<Found, MapFault>, Fault>
+    ensures { ReadsBoard (world F.state T.state H.state p.old) (world F.state T.state H.state p.new) result }
+{
+    let Ok(_) = p.tpm.startup() else {
+        return Err(fault_of(Device::Tpm));
+    };
+    let Ok(map) = read_map(&mut p.flash, p.map_at) else {
+        return Err(fault_of(Device::Flash));
+    };
+    match map {
+        Ok(map) => {
+            let found = read_found(p, &map)?;
+            Ok(Ok(found))
+        }
+        Err(fault) => Ok(Err(fault)),
+    }
+}
+
+// Reads nvdata, the GBB and both spaces of a board whose flash has this map.
+fn read_found<F: Flash, T: Tpm, D: Disk, E: Disk, H: Hook>(
+    p: &mut Platform<F, T, D, E, H>,
+    map: &Map,
+) -> Result<Found, Fault>
+    requires { FitsFlash (world F.state T.state H.state p.old).flash.medium.size map.now }
+    ensures { ReadsFound map.now (world F.state T.state H.state p.old) (world F.state T.state H.state p.new) result }
+{
+    let Ok(state) = load(&mut p.flash, map.nvram.at) else {
+        return Err(fault_of(Device::Flash));
+    };
+    let Ok(gbb) = read_gbb(&mut p.flash, map.gbb) else {
+        return Err(fault_of(Device::Flash));
+    };
+    let Ok((firmware, kernel)) = read_spaces(&mut p.tpm) else {
+        return Err(fault_of(Device::Tpm));
+    };
+    Ok(Found {
+        area: map.nvram.at,
+        state,
+        gbb,
+        firmware,
+        kernel,
+    })
+}
+
+// Reads both spaces.
+fn read_spaces<T: Tpm>(
+    tpm: &mut T,
+) -> Result<(Result<FwSpace, SpaceFault>, Result<KernelSpace, SpaceFault>), Failed>
+    ensures { ReadsSpaces (T.state tpm.old) (T.state tpm.new) result }
+{
+    let mut firmware = [0; 64];
+    let firmware_len = tpm.read(Space::Firmware, &mut firmware)?;
+    let mut kernel = [0; 64];
+    let kernel_len = tpm.read(Space::Kernel, &mut kernel)?;
+    Ok((
+        FwSpace::from_bytes(&firmware[..firmware_len]),
+        KernelSpace::from_bytes(&kernel[..kernel_len]),
+    ))
+}

@@ -1,9 +1,0 @@
-pub mod Ranges
-pub mod Cells
-pub mod Stored
-pub mod Saved
-pub mod Standing
-pub mod Words
-pub mod Booting
-pub mod Ending
-pub mod Fronts

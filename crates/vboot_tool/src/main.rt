@@ -1,30 +1,19 @@
 //! The boot decision as a program: it works on the images of a machine in the current folder.
+//!
+//! `opening` opens the board over these images. What a command does to it and prints is `command_core`'s.
 #![tactic(auto)]
 
-ghost use Rattle.std.specs.Prelude.{◌≡◌, ◌↔◌, IsTrue, map, string_bytes};
-ghost use Rattle.vboot_tool.specs.declared.answer.Answer.TheVariants.{Usage};
-ghost use Rattle.vboot_tool.specs.Run.{Prints};
-ghost use Rattle.vboot_tool.specs.Showing.{IsCommand};
+ghost use Rattle.std.specs.Prelude.{◌≡◌, map, string_bytes};
+ghost use Rattle.command_core.specs.declared.answer.Answer.TheVariants.{Usage};
+ghost use Rattle.command_core.specs.Commands.{IsCommand};
+ghost use Rattle.command_core.specs.Prints.{Prints};
 
-mod answer;
-mod boot;
 mod opening;
-#[cfg(test)]
-mod opening_tests;
-mod plan;
-mod run;
-mod showing;
-mod steps;
-mod store;
-#[cfg(test)]
-mod tests;
 
-use answer::{Answer, Status};
 use board_core::Sink;
 use board_file::{OpenFault, StdSink};
-use opening::{end_unopened, open_board};
-use run::{print, recovery_switch, run};
-use showing::is_show;
+use command_core::{Answer, Status, command_of, print, run_command};
+use opening::open_board;
 use std::process::ExitCode;
 use std::rt::{Env, Files};
 use std::{env, io};
@@ -38,25 +27,18 @@ fn words_of<R: Env + AllocGlobal>(rt: &R) -> io::Result<Vec<String>> {
     Ok(words)
 }
 
-// Whether the words are a command.
-fn is_command(words: &[String]) -> bool
-    ensures { IsTrue result ↔ IsCommand (map string_bytes words.now) }
-{
-    is_show(words) || recovery_switch(words).is_some()
-}
-
 // Runs the command of these words over the files of the current folder.
 fn run_here<R: Files + AllocGlobal, O: Sink>(rt: &R, words: &[String], out: &mut O) -> Status
     ensures usage { (IsCommand (map string_bytes words.now) → ⊥) → Prints Usage (O.state out.old) (O.state out.new) result }
     ensures only_usage { result.code ≡ 1 → IsCommand (map string_bytes words.now) → ⊥ }
 {
-    if !is_command(words) {
+    let Some(command) = command_of(words) else {
         // Before any image is made.
         return print(out, &Answer::Usage);
-    }
+    };
     match open_board(rt) {
-        Ok(mut board) => run(words, &mut board, out),
-        Err(fault) => end_unopened(out, fault),
+        Ok(mut board) => run_command(command, &mut board, out),
+        Err(fault) => print(out, &Answer::Unopened(fault)),
     }
 }
 
@@ -64,7 +46,7 @@ fn start<R: Env + Files + AllocGlobal, O: Sink>(rt: &R, out: &mut O) -> Status {
     let words = match words_of(rt) {
         Ok(words) => words,
         Err(e) if e.kind() == io::ErrorKind::OutOfMemory => {
-            return end_unopened(out, OpenFault::Memory);
+            return print(out, &Answer::Unopened(OpenFault::Memory));
         }
         Err(_) => return print(out, &Answer::Usage),
     };

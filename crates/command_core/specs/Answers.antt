@@ -1,0 +1,82 @@
+-- The text and the exit status of each answer.
+use Rattle.std.specs.Prelude.{ℕ, Bool, true, false, List, [], ◌∷◌, ◌++◌, codes, decimal}
+use Rattle.fwsel_core.specs.declared.slot.Slot.{Slot}
+use Rattle.fwsel_core.specs.declared.slot.Slot.TheVariants.{A, B}
+use Rattle.board_core.specs.declared.device.Device.{Device}
+use Rattle.board_core.specs.declared.device.Device.TheVariants as device
+use Rattle.board_file.specs.declared.open_fault.OpenFault.TheVariants.{CannotOpen, Memory}
+use Rattle.board_file.specs.Files.{file_name}
+use Rattle.rom_core.specs.declared.fault.MapFault.{MapFault}
+use Rattle.rom_core.specs.Faults.{map_fault_number}
+use Rattle.boot_core.specs.declared.outcome.Outcome.{Outcome}
+use Rattle.boot_core.specs.declared.outcome.Outcome.TheVariants as outcome
+use Rattle.command_core.specs.declared.answer.Answer.{Answer}
+use Rattle.command_core.specs.declared.answer.Answer.TheVariants as answer
+
+-- a line with its end
+abbrev pub line_of : List ℕ → List ℕ
+line_of words = words ++ 10 ∷ []
+
+abbrev pub mode_name : Bool → List ℕ
+mode_name false = codes "mode normal"
+mode_name true = codes "mode developer"
+
+abbrev pub slot_name : Slot → List ℕ
+slot_name A = codes "slot A"
+slot_name B = codes "slot B"
+
+abbrev pub device_name : Device → List ℕ
+device_name device.Flash = codes "flash"
+device_name device.Tpm = codes "tpm"
+device_name device.Disk = codes "disk"
+device_name device.Stick = codes "stick"
+device_name device.Hook = codes "hook"
+
+abbrev pub bad_flash_text : MapFault → List ℕ
+bad_flash_text fault = line_of (codes "bad flash " ++ decimal (map_fault_number fault))
+
+-- what a boot comes to
+abbrev pub outcome_text : Outcome → List ℕ
+outcome_text (outcome.Selected developer slot) = line_of (mode_name developer) ++ line_of (slot_name slot)
+outcome_text (outcome.Screen reason subcode) = line_of (codes "screen reason " ++ decimal reason ++ codes " subcode " ++ decimal subcode)
+outcome_text outcome.ManualRecovery = line_of (codes "not built recovery")
+outcome_text (outcome.BadFlash fault) = bad_flash_text fault
+
+abbrev pub text_of : Answer → List ℕ
+text_of answer.Usage = line_of (codes "usage")
+text_of (answer.Booted outcome) = outcome_text outcome
+text_of (answer.Faulted fault) = line_of (codes "fault " ++ device_name fault.device ++ codes " done " ++ decimal fault.done)
+text_of (answer.Failed device) = line_of (codes "fault " ++ device_name device)
+text_of (answer.BadFlash fault) = bad_flash_text fault
+text_of (answer.WrongSize device) = line_of (codes "refused make size " ++ device_name device)
+text_of answer.HookFull = line_of (codes "refused make hook full")
+text_of answer.OutOfMemory = line_of (codes "out of memory")
+text_of (answer.Unopened (CannotOpen file)) = line_of (codes "cannot open " ++ file_name file)
+text_of (answer.Unopened Memory) = line_of (codes "out of memory")
+
+-- ---- the exit status
+
+abbrev pub device_code : Device → ℕ
+device_code device.Flash = 5
+device_code device.Tpm = 6
+device_code device.Disk = 7
+device_code device.Stick = 7
+device_code device.Hook = 8
+
+abbrev pub outcome_code : Outcome → ℕ
+outcome_code (outcome.Selected developer slot) = 0
+outcome_code (outcome.Screen reason subcode) = 3
+outcome_code (outcome.BadFlash fault) = 11
+outcome_code outcome.ManualRecovery = 19
+
+abbrev pub code_of : Answer → ℕ
+code_of answer.Usage = 1
+code_of (answer.Booted outcome) = outcome_code outcome
+code_of (answer.Faulted fault) = device_code fault.device
+code_of (answer.Failed device) = device_code device
+code_of (answer.BadFlash fault) = 11
+code_of answer.OutOfMemory = 15
+code_of (answer.Unopened Memory) = 15
+code_of (answer.WrongSize device) = 16
+code_of answer.HookFull = 16
+code_of (answer.Unopened (CannotOpen file)) = 17

@@ -1,0 +1,201 @@
+// What a command came to, with its text and its exit status.
+ghost use Rattle.std.specs.Prelude.{◌≡◌, ◌≤◌, ◌++◌, length};
+ghost use Rattle.command_core.specs.Answers.{line_of, text_of, code_of, device_name, device_code, outcome_text, outcome_code};
+
+use board_core::{Device, Fault};
+use board_file::OpenFault;
+use boot_core::Outcome;
+use fwsel_core::Slot;
+use rom_core::MapFault;
+use text_core::Text;
+
+/// What a command came to, before it is printed.
+#[derive(Clone, Copy, Debug, PartialEq, Eq)]
+pub enum Answer {
+    /// The words are no command.
+    Usage,
+    /// A boot came to this.
+    Booted(Outcome),
+    /// A call of a device failed in a boot, after so many whole changes.
+    Faulted(Fault),
+    /// A call of a device failed, before a boot or in another command.
+    Failed(Device),
+    /// The map of a flash that was to be shown has this fault.
+    BadFlash(MapFault),
+    /// This device has another size than that of the machine to be made.
+    WrongSize(Device),
+    /// The list of accepted signatures has no room for those of the machine to be made.
+    HookFull,
+    /// There was no memory.
+    OutOfMemory,
+    /// The board was not opened.
+    Unopened(OpenFault),
+}
+
+/// How a command ended, as the exit status of the program.
+#[derive(Clone, Copy, Debug, PartialEq, Eq)]
+pub struct Status {
+    pub code: u8,
+}
+
+/// The exit status where a put into the sink failed.
+pub const SINK_FAULT: u8 = 9;
+
+// The name of a device, as it is printed.
+fn name_of(device: Device) -> &'static [u8]
+    ensures name { result.now ≡ device_name device }
+    ensures short { length result.now ≤ 5 }
+{
+    match device {
+        Device::Flash => b"flash",
+        Device::Tpm => b"tpm",
+        Device::Disk => b"disk",
+        Device::Stick => b"stick",
+        Device::Hook => b"hook",
+    }
+}
+
+// The exit status of a fault of a device.
+fn code_of_device(device: Device) -> u8
+    ensures { result ≡ device_code device }
+{
+    match device {
+        Device::Flash => 5,
+        Device::Tpm => 6,
+        Device::Disk | Device::Stick => 7,
+        Device::Hook => 8,
+    }
+}
+
+fn code_of_outcome(outcome: Outcome) -> u8
+    ensures { result ≡ outcome_code outcome }
+{
+    match outcome {
+        Outcome::Selected { .. } => 0,
+        Outcome::Screen { .. } => 3,
+        Outcome::BadFlash(_) => 11,
+        Outcome::ManualRecovery => 19,
+    }
+}
+
+impl Answer {
+    /// The exit status, where the text could be printed.
+    pub fn code(&self) -> u8
+        ensures { result ≡ code_of self.now }
+    {
+        match self {
+            Answer::Usage => 1,
+            Answer::Booted(outcome) => code_of_outcome(*outcome),
+            Answer::Faulted(fault) => code_of_device(fault.device),
+            Answer::Failed(device) => code_of_device(*device),
+            Answer::BadFlash(_) => 11,
+            Answer::OutOfMemory | Answer::Unopened(OpenFault::Memory) => 15,
+            Answer::WrongSize(_) | Answer::HookFull => 16,
+            Answer::Unopened(OpenFault::CannotOpen(_)) => 17,
+        }
+    }
+
+    /// The text, with the ends of its lines.
+    pub fn text(&self) -> Text
+        ensures { result ≡ text_of self.now }
+    {
+        match self {
+            Answer::Usage => line(b"usage"),
+            Answer::Booted(outcome) => text_of_outcome(*outcome),
+            Answer::Faulted(fault) => fault_text(fault),
+            Answer::Failed(device) => named(b"fault ", name_of(*device)),
+            Answer::BadFlash(fault) => bad_flash_text(*fault),
+            Answer::WrongSize(device) => named(b"refused make size ", name_of(*device)),
+            Answer::HookFull => line(b"refused make hook full"),
+            Answer::OutOfMemory | Answer::Unopened(OpenFault::Memory) => line(b"out of memory"),
+            Answer::Unopened(OpenFault::CannotOpen(file)) => {
+                named(b"cannot open ", file.name().as_bytes())
+            }
+        }
+    }
+}
+
+// A line of its own.
+fn line(words: &[u8]) -> Text
+    requires { length words.now ≤ 64 }
+    ensures { result ≡ line_of words.now }
+{
+    let mut text = Text::new();
+    text.push(words);
+    text.push(b"\n");
+    text
+}
+
+// A line that ends in a name.
+fn named(words: &[u8], name: &[u8]) -> Text
+    requires words { length words.now ≤ 64 }
+    requires name { length name.now ≤ 64 }
+    ensures { result ≡ line_of (words.now ++ name.now) }
+{
+    let mut text = Text::new();
+    text.push(words);
+    text.push(name);
+    text.push(b"\n");
+    text
+}
+
+fn text_of_outcome(outcome: Outcome) -> Text
+    ensures { result ≡ outcome_text outcome }
+{
+    match outcome {
+        Outcome::Selected { developer, slot } => selected_text(developer, slot),
+        Outcome::Screen { reason, subcode } => screen_text(reason, subcode),
+        Outcome::ManualRecovery => line(b"not built recovery"),
+        Outcome::BadFlash(fault) => bad_flash_text(fault),
+    }
+}
+
+fn selected_text(developer: bool, slot: Slot) -> Text
+    ensures { result ≡ outcome_text (Outcome.Selected developer slot) }
+{
+    let mut text = Text::new();
+    text.push(if developer {
+        b"mode developer\n"
+    } else {
+        b"mode normal\n"
+    });
+    text.push(match slot {
+        Slot::A => b"slot A\n",
+        Slot::B => b"slot B\n",
+    });
+    text
+}
+
+fn screen_text(reason: u8, subcode: u8) -> Text
+    ensures { result ≡ outcome_text (Outcome.Screen reason subcode) }
+{
+    let mut text = Text::new();
+    text.push(b"screen reason ");
+    text.push_decimal(u64::from(reason));
+    text.push(b" subcode ");
+    text.push_decimal(u64::from(subcode));
+    text.push(b"\n");
+    text
+}
+
+fn bad_flash_text(fault: MapFault) -> Text
+    ensures { result ≡ text_of (Answer.BadFlash fault) }
+{
+    let mut text = Text::new();
+    text.push(b"bad flash ");
+    text.push_decimal(u64::from(fault.number()));
+    text.push(b"\n");
+    text
+}
+
+fn fault_text(fault: &Fault) -> Text
+    ensures { result ≡ text_of (Answer.Faulted fault.now) }
+{
+    let mut text = Text::new();
+    text.push(b"fault ");
+    text.push(name_of(fault.device));
+    text.push(b" done ");
+    text.push_decimal(u64::from(fault.done));
+    text.push(b"\n");
+    text
+}

@@ -1,0 +1,47 @@
+// The command that boots a board.
+ghost use Rattle.board_core.specs.World.{world};
+ghost use Rattle.boot_core.specs.Carries.{IsSettled};
+ghost use Rattle.command_core.specs.Booting.{switches_of, BootWorks, BootRuns, BootEnds};
+
+use crate::answer::{Answer, Status};
+use crate::printing::print;
+use board_core::{Device, Disk, Flash, Hook, Platform, Sink, Tpm};
+use boot_core::{Choice, Switches, boot};
+use rom_core::locate;
+
+/// Boots a board with the recovery switch on or off, prints what it came to, and answers the exit status.
+pub fn run_boot<F: Flash, T: Tpm, D: Disk, E: Disk, H: Hook, O: Sink>(
+    p: &mut Platform<F, T, D, E, H>,
+    recovery: bool,
+    out: &mut O,
+) -> Status
+    requires { IsSettled (world F.state T.state H.state p.old) }
+    ensures runs { BootRuns (switches_of recovery) (world F.state T.state H.state p.old) (world F.state T.state H.state p.new) (O.state out.old) (O.state out.new) result }
+    ensures ends { BootEnds (switches_of recovery) (world F.state T.state H.state p.old) (world F.state T.state H.state p.new) (O.state out.old) (O.state out.new) result }
+{
+    let sw = Switches {
+        recovery,
+        enable_dev: false,
+        choice: Choice::Default,
+    };
+    let answer = work_boot(p, sw);
+    print(out, &answer)
+}
+
+// Looks for the map of the flash, and boots.
+fn work_boot<F: Flash, T: Tpm, D: Disk, E: Disk, H: Hook>(
+    p: &mut Platform<F, T, D, E, H>,
+    sw: Switches,
+) -> Answer
+    requires { IsSettled (world F.state T.state H.state p.old) }
+    ensures { BootWorks sw (world F.state T.state H.state p.old) (world F.state T.state H.state p.new) result }
+{
+    let Ok(at) = locate(&mut p.flash) else {
+        return Answer::Failed(Device::Flash);
+    };
+    p.map_at = at;
+    match boot(p, sw) {
+        Ok(outcome) => Answer::Booted(outcome),
+        Err(fault) => Answer::Faulted(fault),
+    }
+}

@@ -1,0 +1,47 @@
+// The top call: a command by its words, and its answer in print.
+ghost use Rattle.std.specs.Prelude.{◌≡◌, map, string_bytes, Some};
+ghost use Rattle.board_core.specs.World.{world};
+ghost use Rattle.boot_core.specs.Carries.{IsSettled};
+ghost use Rattle.command_core.specs.Run.{RunsBy, Runs};
+
+use crate::answer::{Answer, Status};
+use crate::booting::run_boot;
+use crate::command::{Command, command_of};
+use crate::making::run_make;
+use crate::printing::print;
+use crate::showing::run_show;
+use board_core::{Disk, Flash, Hook, Platform, Sink, Tpm};
+
+/// Works the command that these words name, which follow the program's name, on a board on whose disks nothing is pending,
+/// and prints its answer. Other words leave the board as it is.
+pub fn run_words<F: Flash, T: Tpm, D: Disk, E: Disk, H: Hook, O: Sink>(
+    words: &[String],
+    p: &mut Platform<F, T, D, E, H>,
+    out: &mut O,
+) -> Status
+    requires { IsSettled (world F.state T.state H.state p.old) }
+    ensures { Runs (map string_bytes words.now) (world F.state T.state H.state p.old) (world F.state T.state H.state p.new) (O.state out.old) (O.state out.new) result }
+{
+    let found = command_of(words);
+    match found {
+        None => print(out, &Answer::Usage),
+        Some(command) => run_command(command, p, out),
+    }
+}
+
+/// Works a command on a board on whose disks nothing is pending, and prints its answer.
+pub fn run_command<F: Flash, T: Tpm, D: Disk, E: Disk, H: Hook, O: Sink>(
+    command: Command,
+    p: &mut Platform<F, T, D, E, H>,
+    out: &mut O,
+) -> Status
+    requires { IsSettled (world F.state T.state H.state p.old) }
+    ensures runs { RunsBy (Some command) (world F.state T.state H.state p.old) (world F.state T.state H.state p.new) (O.state out.old) (O.state out.new) result }
+    ensures not_usage { result.code ≡ 1 → ⊥ }
+{
+    match command {
+        Command::Boot { recovery } => run_boot(p, recovery, out),
+        Command::ShowFlash => run_show(p, out),
+        Command::Make(number) => run_make(p, number, out),
+    }
+}

@@ -6,10 +6,10 @@
 // ---- keys and signatures
 
 /// The bytes of a key of algorithm 4.
-pub const KEY_SIZE: u32 = 520;
+pub const KEY_SIZE: usize = 520;
 
 /// The bytes of a signature of algorithm 4.
-pub const SIGNATURE_SIZE: u32 = 256;
+pub const SIGNATURE_SIZE: usize = 256;
 
 /// RSA 2048 with SHA-256.
 pub const ALGORITHM: u32 = 4;
@@ -18,7 +18,7 @@ pub const ALGORITHM: u32 = 4;
 pub const KEY_VERSION: u32 = 1;
 
 /// The size of the head of a packed key. Its bytes follow, where nothing else is said.
-pub const KEY_HEAD: u32 = 32;
+pub const KEY_HEAD: usize = 32;
 
 /// The tag of the root key.
 pub const ROOT_KEY: u32 = 1;
@@ -66,6 +66,9 @@ pub const SLOT_B: SlotTags = SlotTags {
 /// What a keyblock begins with.
 pub const KEYBLOCK_MAGIC: [u8; 8] = *b"CHROMEOS";
 
+/// The place of the first number behind it.
+pub const KEYBLOCK_NUMBERS: usize = 8;
+
 /// The version of the format of keyblocks and preambles: 2.1.
 pub const FORMAT_MAJOR: u32 = 2;
 
@@ -73,28 +76,28 @@ pub const FORMAT_MAJOR: u32 = 2;
 pub const FORMAT_MINOR: u32 = 1;
 
 /// The place of a keyblock's signature head.
-pub const KEYBLOCK_SIGNATURE: u32 = 24;
+pub const KEYBLOCK_SIGNATURE: usize = 24;
 
 /// The place of the head of its hash.
-pub const KEYBLOCK_HASH: u32 = 48;
+pub const KEYBLOCK_HASH: usize = 48;
 
 /// The place of the head of its data key.
-pub const KEYBLOCK_DATA_KEY: u32 = 80;
+pub const KEYBLOCK_DATA_KEY: usize = 80;
 
 /// The size of its head. The bytes of the data key follow.
-pub const KEYBLOCK_HEAD: u32 = 112;
+pub const KEYBLOCK_HEAD: usize = 112;
 
 /// How many of its bytes are signed. The hash follows.
-pub const KEYBLOCK_SIGNED: u32 = 632;
+pub const KEYBLOCK_SIGNED: usize = 632;
 
 /// The place of the bytes of its signature, behind the hash.
-pub const KEYBLOCK_SIGNATURE_BYTES: u32 = 696;
+pub const KEYBLOCK_SIGNATURE_BYTES: usize = 696;
 
 /// The bytes of a keyblock.
-pub const KEYBLOCK_SIZE: u32 = 952;
+pub const KEYBLOCK_SIZE: usize = 952;
 
 /// The bytes of a hash, which is SHA-512.
-pub const HASH_SIZE: u32 = 64;
+pub const HASH_SIZE: usize = 64;
 
 /// The flags of a firmware keyblock: good with the developer switch off and on, and not in recovery.
 pub const FIRMWARE_FLAGS: u32 = 7;
@@ -102,28 +105,28 @@ pub const FIRMWARE_FLAGS: u32 = 7;
 // ---- a firmware preamble
 
 /// The place of a preamble's signature head.
-pub const PREAMBLE_SIGNATURE: u32 = 8;
+pub const PREAMBLE_SIGNATURE: usize = 8;
 
 /// The place of the head of the kernel subkey.
-pub const PREAMBLE_SUBKEY: u32 = 48;
+pub const PREAMBLE_SUBKEY: usize = 48;
 
 /// The place of the head of the body's signature.
-pub const PREAMBLE_BODY_SIGNATURE: u32 = 80;
+pub const PREAMBLE_BODY_SIGNATURE: usize = 80;
 
 /// The size of its head. The bytes of the kernel subkey follow.
-pub const PREAMBLE_HEAD: u32 = 108;
+pub const PREAMBLE_HEAD: usize = 108;
 
 /// The place of the bytes of the body's signature.
-pub const PREAMBLE_BODY_SIGNATURE_BYTES: u32 = 628;
+pub const PREAMBLE_BODY_SIGNATURE_BYTES: usize = 628;
 
 /// How many of its bytes are signed. The bytes of its signature follow.
-pub const PREAMBLE_SIGNED: u32 = 884;
+pub const PREAMBLE_SIGNED: usize = 884;
 
 /// The bytes of a preamble.
-pub const PREAMBLE_SIZE: u32 = 1140;
+pub const PREAMBLE_SIZE: usize = 1140;
 
 /// The bytes of a keyblock and the preamble behind it.
-pub const VBLOCK_SIZE: u32 = 2092;
+pub const VBLOCK_SIZE: usize = 2092;
 
 // ---- a body
 
@@ -156,7 +159,7 @@ pub const GBB_MAGIC: [u8; 4] = *b"$GBB";
 pub const GBB_VERSION: [u8; 4] = [1, 0, 2, 0];
 
 /// The size of its head.
-pub const GBB_HEAD: u32 = 128;
+pub const GBB_HEAD: usize = 128;
 
 /// The text of the HWID.
 pub const HWID: [u8; 14] = *b"DEMO TEST 1234";
@@ -165,16 +168,16 @@ pub const HWID: [u8; 14] = *b"DEMO TEST 1234";
 pub const HWID_SIZE: u32 = 16;
 
 /// The place of the root key in the GBB.
-pub const GBB_ROOT_KEY: u32 = 144;
+pub const GBB_ROOT_KEY: usize = 144;
 
 /// The place of the recovery key in the GBB.
-pub const GBB_RECOVERY_KEY: u32 = 696;
+pub const GBB_RECOVERY_KEY: usize = 696;
 
 /// The bytes of a packed key: its head and the key's bytes.
-pub const PACKED_KEY: u32 = 552;
+pub const PACKED_KEY: usize = 552;
 
 /// The bytes of a GBB. A bitmap block of no bytes would stand behind them.
-pub const GBB_SIZE: u32 = 1248;
+pub const GBB_SIZE: usize = 1248;
 
 // ---- nvdata
 

@@ -33,7 +33,7 @@ fn make_map_head() -> [u8; 56]
 {
     let mut out = [0; 56];
     put_bytes(&mut out, 0, &MAP_MAGIC);
-    put_bytes(&mut out, 8, &MAP_VERSION);
+    put_bytes(&mut out, MAP_MAGIC.len(), &MAP_VERSION);
     put_words(&mut out, 10, &[0, 0, FLASH_SIZE]);
     put_bytes(&mut out, 22, &make_name(&MAP_NAME));
     put_bytes(&mut out, 54, &MAP_AREAS);
@@ -55,23 +55,23 @@ pub fn make_map() -> [u8; 308]
     out
 }
 
-fn make_gbb_head() -> [u8; 128]
+fn make_gbb_head() -> [u8; GBB_HEAD]
     ensures { result ≡ gbb_head }
 {
     let numbers = [
-        GBB_HEAD,
+        GBB_HEAD as u32,
         0,
-        GBB_HEAD,
+        GBB_HEAD as u32,
         HWID_SIZE,
-        GBB_ROOT_KEY,
-        PACKED_KEY,
-        GBB_SIZE,
+        GBB_ROOT_KEY as u32,
+        PACKED_KEY as u32,
+        GBB_SIZE as u32,
         0,
-        GBB_RECOVERY_KEY,
-        PACKED_KEY,
+        GBB_RECOVERY_KEY as u32,
+        PACKED_KEY as u32,
     ];
     let digest = Sha256::digest(&HWID);
-    let mut out = [0; 128];
+    let mut out = [0; GBB_HEAD];
     put_bytes(&mut out, 0, &GBB_MAGIC);
     put_bytes(&mut out, 4, &GBB_VERSION);
     put_words(&mut out, 8, &numbers);
@@ -81,26 +81,39 @@ fn make_gbb_head() -> [u8; 128]
 }
 
 // A packed key of this tag.
-fn make_packed_key(number: u32, tag: u32) -> [u8; 552]
+fn make_packed_key(number: u32, tag: u32) -> [u8; PACKED_KEY]
     requires { tag < 256 }
     ensures { result ≡ packed_key number tag }
 {
-    let head = [KEY_HEAD, 0, KEY_SIZE, 0, ALGORITHM, 0, KEY_VERSION, 0];
-    let mut out = [0; 552];
+    let head = [
+        KEY_HEAD as u32,
+        0,
+        KEY_SIZE as u32,
+        0,
+        ALGORITHM,
+        0,
+        KEY_VERSION,
+        0,
+    ];
+    let mut out = [0; PACKED_KEY];
     put_words(&mut out, 0, &head);
-    put_fill(&mut out, 32, number, tag, 0, 520);
+    put_fill(&mut out, KEY_HEAD, number, tag, 0, KEY_SIZE);
     out
 }
 
 /// The GBB.
-pub fn make_gbb(number: u32) -> [u8; 1248]
+pub fn make_gbb(number: u32) -> [u8; GBB_SIZE]
     ensures { result ≡ gbb number }
 {
-    let mut out = [0; 1248];
+    let mut out = [0; GBB_SIZE];
     put_bytes(&mut out, 0, &make_gbb_head());
-    put_bytes(&mut out, 128, &HWID);
-    put_bytes(&mut out, 142, &[0, 0]);
-    put_bytes(&mut out, 144, &make_packed_key(number, ROOT_KEY));
-    put_bytes(&mut out, 696, &make_packed_key(number, RECOVERY_KEY));
+    put_bytes(&mut out, GBB_HEAD, &HWID);
+    put_bytes(&mut out, GBB_HEAD + HWID.len(), &[0, 0]);
+    put_bytes(&mut out, GBB_ROOT_KEY, &make_packed_key(number, ROOT_KEY));
+    put_bytes(
+        &mut out,
+        GBB_RECOVERY_KEY,
+        &make_packed_key(number, RECOVERY_KEY),
+    );
     out
 }

@@ -18,8 +18,8 @@ fn key_digest(number: u32, tag: u32) -> [u8; 32]
     requires { tag < 256 }
     ensures { result ≡ sha256 (fill number tag 520) }
 {
-    let mut key = [0; 520];
-    put_fill(&mut key, 0, number, tag, 0, 520);
+    let mut key = [0; KEY_SIZE];
+    put_fill(&mut key, 0, number, tag, 0, KEY_SIZE);
     Sha256::digest(&key)
 }
 
@@ -28,8 +28,8 @@ fn signature_digest(number: u32, tag: u32) -> [u8; 32]
     requires { tag < 256 }
     ensures { result ≡ sha256 (fill number tag 256) }
 {
-    let mut signature = [0; 256];
-    put_fill(&mut signature, 0, number, tag, 0, 256);
+    let mut signature = [0; SIGNATURE_SIZE];
+    put_fill(&mut signature, 0, number, tag, 0, SIGNATURE_SIZE);
     Sha256::digest(&signature)
 }
 

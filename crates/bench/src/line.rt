@@ -1,0 +1,98 @@
+// A line of the script of cases.
+use hex::decode;
+use std::alloc::Global;
+
+/// A space of the TPM, by its name in a line.
+#[derive(Clone, Copy, Debug, PartialEq, Eq)]
+pub enum SpaceName {
+    Firmware,
+    Kernel,
+}
+
+/// A device whose calls fail in turn.
+#[derive(Clone, Copy, Debug, PartialEq, Eq)]
+pub enum Failing {
+    Flash,
+    Tpm,
+    Hook,
+    Sink,
+}
+
+impl Failing {
+    /// The device of this name.
+    pub fn named(name: &str) -> Option<Failing> {
+        match name {
+            "flash" => Some(Failing::Flash),
+            "tpm" => Some(Failing::Tpm),
+            "hook" => Some(Failing::Hook),
+            "sink" => Some(Failing::Sink),
+            _ => None,
+        }
+    }
+}
+
+/// What a line asks for.
+#[derive(Drop)]
+pub enum Line {
+    /// The machine of this number is made.
+    Machine(u32),
+    /// A machine whose flash has so many erased bytes.
+    Erased(u32),
+    /// Bytes are put into the flash of the machine, from a place.
+    Rewrite(u32, Vec<u8>),
+    /// A space of the machine has these bytes.
+    Space(SpaceName, Vec<u8>),
+    /// These words are run with each call of a device failing in turn.
+    Each(Failing, usize),
+    /// These words are run.
+    Words,
+}
+
+fn number_in(word: &str) -> Option<u32> {
+    word.parse::<u32>().ok()
+}
+
+// The bytes of pairs of hexadecimal digits; a dash is none.
+fn bytes_in(alloc: Global, word: &str) -> Option<Vec<u8>> {
+    if word == "-" {
+        return Some(Vec::new(alloc));
+    }
+    decode(alloc, word).ok()
+}
+
+fn space_named(name: &str) -> Option<SpaceName> {
+    match name {
+        "firmware" => Some(SpaceName::Firmware),
+        "kernel" => Some(SpaceName::Kernel),
+        _ => None,
+    }
+}
+
+/// What the words of a line ask for; `None` where they are of no form.
+pub fn line_of(alloc: Global, words: &[String]) -> Option<Line> {
+    match words {
+        [verb, number] if verb.as_str() == "machine" => {
+            Some(Line::Machine(number_in(number.as_str())?))
+        }
+        [verb, number] if verb.as_str() == "erased" => {
+            Some(Line::Erased(number_in(number.as_str())?))
+        }
+        [verb, device, place, digits] if verb.as_str() == "rewrite" && device.as_str() == "flash" =>
+            {
+                let place = number_in(place.as_str())?;
+                Some(Line::Rewrite(place, bytes_in(alloc, digits.as_str())?))
+            }
+        [verb, space, digits] if verb.as_str() == "space" => {
+            let space = space_named(space.as_str())?;
+            Some(Line::Space(space, bytes_in(alloc, digits.as_str())?))
+        }
+        [verb, device, ..] if verb.as_str() == "each" => {
+            Some(Line::Each(Failing::named(device.as_str())?, 2))
+        }
+        [verb, ..] => match verb.as_str() {
+            "machine" | "erased" | "rewrite" | "space" | "each" => None,
+            _ => Some(Line::Words),
+        },
+        [] => None,
+    }
+}

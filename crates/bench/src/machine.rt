@@ -1,0 +1,68 @@
+// The machine of a case: the images that a command is run on.
+ghost use Rattle.std.specs.Prelude.{◌≡◌, ◌≤◌, ◌<◌, ◌^◌, length, vec_len, IfOk};
+
+use std::alloc::{AllocError, Global};
+
+/// A space of the TPM, of at most 64 bytes.
+#[derive(Clone, Copy, Debug)]
+pub struct SpaceImage {
+    bytes: [u8; 64],
+    len: usize,
+    ghost few: { len ≤ 64 },
+}
+
+impl SpaceImage {
+    /// The space of no bytes.
+    pub fn empty() -> SpaceImage {
+        SpaceImage {
+            bytes: [0; 64],
+            len: 0,
+        }
+    }
+
+    /// The space of these bytes, of which the first 64 are taken.
+    pub fn of(bytes: &[u8]) -> SpaceImage {
+        let len = bytes.len().min(64);
+        let mut image = SpaceImage::empty();
+        image.bytes[..len].copy_from_slice(&bytes[..len]);
+        image.len = len;
+        image
+    }
+
+    /// The bytes.
+    pub fn as_slice(&self) -> &[u8]
+        ensures { length result.now ≤ 64 }
+    {
+        &self.bytes[..self.len]
+    }
+}
+
+/// The images of a flash and of both spaces of a TPM.
+#[derive(Drop)]
+pub struct Machine {
+    pub flash: Vec<u8>,
+    pub firmware: SpaceImage,
+    pub kernel: SpaceImage,
+    ghost small: { vec_len flash < 2 ^ 32 },
+}
+
+impl Machine {
+    /// A machine whose flash has so many erased bytes, and whose spaces are empty.
+    pub fn erased(alloc: Global, size: u32) -> Result<Machine, AllocError> {
+        Ok(Machine {
+            flash: vec![in alloc; 0xff; size as usize]?,
+            firmware: SpaceImage::empty(),
+            kernel: SpaceImage::empty(),
+        })
+    }
+
+    /// Puts bytes into the flash from a place, in bytes, and answers whether they lie inside.
+    pub fn rewrite(&mut self, at: usize, bytes: &[u8]) -> bool {
+        let size = self.flash.len();
+        if at > size || bytes.len() > size - at {
+            return false;
+        }
+        self.flash[at..at + bytes.len()].copy_from_slice(bytes);
+        true
+    }
+}

@@ -1,0 +1,129 @@
+//! The bench: it reads a script of cases, runs each over devices in memory, and prints a transcript, which the gate compares.
+//!
+//! Each line of the script is printed, and below it what it came to. `machine N` makes the machine of a number, and `erased N`
+//! one whose flash has so many erased bytes; `rewrite flash PLACE HEX` and `space firmware HEX` change its images; `each DEVICE
+//! WORDS` runs words with each call of a device failing in turn, with each of the remains, and leaves the machine as it was; any
+//! other words are run on the machine. A line that begins with `#` is a comment.
+#![tactic(auto)]
+
+mod line;
+mod machine;
+mod running;
+mod transcript;
+
+use board_mem::{FailAt, Remains};
+use line::{Failing, Line, SpaceName, line_of};
+use machine::{Machine, SpaceImage};
+use running::run_on;
+use std::alloc::{AllocError, Global};
+use std::io;
+use transcript::print_run;
+
+/// The most calls of a device that fail in turn.
+const MOST_CALLS: u32 = 64;
+
+fn words_of(alloc: Global, line: &str) -> Result<Vec<String>, AllocError> {
+    let mut words = Vec::new(alloc);
+    for word in line.split(' ') {
+        if !word.is_empty() {
+            words.push(String::from_str(alloc, word)?)?;
+        }
+    }
+    Ok(words)
+}
+
+// Whether the status is that of a fault of a device or of the sink.
+fn is_fault(status: u8) -> bool {
+    matches!(status, 5 | 6 | 7 | 8 | 9)
+}
+
+// Runs words with each call of a device failing in turn, until a run has no fault.
+fn run_each<R: Print + AllocGlobal>(
+    rt: &R,
+    machine: &Machine,
+    words: &[String],
+    device: Failing,
+    remains: Remains,
+    name: &str,
+) -> io::Result<()> {
+    for call in 1..=MOST_CALLS {
+        let fail = FailAt { call, remains };
+        let ran = run_on(rt.alloc(), machine, words, Some((device, fail)))?;
+        if !is_fault(ran.status) {
+            return Ok(());
+        }
+        println!(rt; "  - call {call} {name}")?;
+        print_run(rt, machine, &ran)?;
+    }
+    Ok(())
+}
+
+// Makes the machine of a number.
+fn make_machine(alloc: Global, number: u32) -> Result<Machine, AllocError> {
+    let erased = Machine::erased(alloc, 1_048_576)?;
+    let mut words = Vec::new(alloc);
+    words.push(String::from_str(alloc, "make")?)?;
+    words.push(format!(in alloc; "{number}")?)?;
+    let ran = run_on(alloc, &erased, &words, None)?;
+    Ok(ran.after)
+}
+
+// Works a line, and answers the machine after it.
+fn work<R: Print + AllocGlobal>(
+    rt: &R,
+    mut machine: Machine,
+    words: &[String],
+) -> io::Result<Machine> {
+    let alloc = rt.alloc();
+    match line_of(alloc, words) {
+        None => {
+            println!(rt; "  no such line")?;
+            Ok(machine)
+        }
+        Some(Line::Machine(number)) => Ok(make_machine(alloc, number)?),
+        Some(Line::Erased(size)) => Ok(Machine::erased(alloc, size)?),
+        Some(Line::Rewrite(at, bytes)) => {
+            if !machine.rewrite(at as usize, &bytes) {
+                println!(rt; "  not inside")?;
+            }
+            Ok(machine)
+        }
+        Some(Line::Space(SpaceName::Firmware, bytes)) => {
+            machine.firmware = SpaceImage::of(&bytes);
+            Ok(machine)
+        }
+        Some(Line::Space(SpaceName::Kernel, bytes)) => {
+            machine.kernel = SpaceImage::of(&bytes);
+            Ok(machine)
+        }
+        Some(Line::Each(device, from)) => {
+            if from <= words.len() {
+                let words = &words[from..];
+                run_each(rt, &machine, words, device, Remains::Old, "old")?;
+                run_each(rt, &machine, words, device, Remains::New, "new")?;
+                run_each(rt, &machine, words, device, Remains::Fill(0), "zeros")?;
+            }
+            Ok(machine)
+        }
+        Some(Line::Words) => {
+            let ran = run_on(alloc, &machine, words, None)?;
+            print_run(rt, &machine, &ran)?;
+            Ok(ran.after)
+        }
+    }
+}
+
+fn main(rt: HostRuntime) -> io::Result<()> {
+    let mut machine = Machine::erased(rt.alloc(), 0)?;
+    for line in rt.lines(rt.alloc()) {
+        let line = line?;
+        let text = line.as_str();
+        if text.is_empty() || text.starts_with('#') {
+            continue;
+        }
+        println!(rt; "{text}")?;
+        let words = words_of(rt.alloc(), text)?;
+        machine = work(&rt, machine, &words)?;
+    }
+    Ok(())
+}

@@ -73,18 +73,19 @@ fn work<R: Print + AllocGlobal>(
     rt: &R,
     mut machine: Machine,
     words: &[String],
+    number: u64,
 ) -> io::Result<Machine> {
     let alloc = rt.alloc();
     match line_of(alloc, words) {
         None => {
-            println!(rt; "  no such line")?;
+            println!(rt; "  line {number} has no form of a case")?;
             Ok(machine)
         }
         Some(Line::Machine(number)) => Ok(make_machine(alloc, number)?),
         Some(Line::Erased(size)) => Ok(Machine::erased(alloc, size)?),
         Some(Line::Rewrite(at, bytes)) => {
             if !machine.rewrite(at as usize, &bytes) {
-                println!(rt; "  not inside")?;
+                println!(rt; "  line {number} is not inside the flash")?;
             }
             Ok(machine)
         }
@@ -115,15 +116,17 @@ fn work<R: Print + AllocGlobal>(
 
 fn main(rt: HostRuntime) -> io::Result<()> {
     let mut machine = Machine::erased(rt.alloc(), 0)?;
+    let mut number = 0u64;
     for line in rt.lines(rt.alloc()) {
         let line = line?;
+        number = number.saturating_add(1);
         let text = line.as_str();
         if text.is_empty() || text.starts_with('#') {
             continue;
         }
         println!(rt; "{text}")?;
         let words = words_of(rt.alloc(), text)?;
-        machine = work(&rt, machine, &words)?;
+        machine = work(&rt, machine, &words, number)?;
     }
     Ok(())
 }

@@ -6,3 +6,4 @@ pub mod Making
 pub mod Finishing
 pub mod Findings
 pub mod Whole
+pub mod Aside

@@ -4,3 +4,4 @@ pub mod Carries
 pub mod Plan
 pub mod Steps
 pub mod Boots
+pub mod Beside

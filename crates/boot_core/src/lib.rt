@@ -11,6 +11,7 @@
 mod booting;
 mod changing;
 mod found;
+mod laws;
 mod locking;
 mod outcome;
 mod plan;
@@ -18,5 +19,6 @@ mod reading;
 mod switches;
 
 pub use booting::boot;
+pub use laws::nvdata_is_beside;
 pub use outcome::Outcome;
 pub use switches::{Choice, Switches};

@@ -9,7 +9,7 @@ use Rattle.board_core.proofs.Stops.{observed_then}
 use Rattle.rom_core.specs.declared.map.Map.{Map}
 use Rattle.rom_core.specs.declared.fault.MapFault.{MapFault}
 use Rattle.rom_core.specs.Map.{count_of, head_at, is_map_at, Row, rows_in, areas_in, StandingMap, area_lines, MapQuestion, standing_map, map_lines}
-use Rattle.rom_core.specs.MapFits.{FitsFlash}
+use Rattle.rom_core.specs.MapFits.{FitsFlash, IsApart}
 use Rattle.rom_core.specs.Reading.{map_question, map_of_rows, ReadsAreas, ReadsMap}
 
 -- only the lines of its areas are left
@@ -33,14 +33,15 @@ reads_map at count old mid new result counters medium pages small stands counted
       none = λ told. subst (λ (first : Option MapFault). IfOk result (λ answer. OnOk answer (first ≡ None))) (lines told) (reads.none (told_mid told));
       areas = λ told. subst (λ (standing : StandingMap). IfOk result (λ answer. IfOk answer (λ (map : Map). areas_in standing.rows ≡ Some map))) (same told) (reads.areas (told_mid told));
       fits = subst (λ (m : FlashMedium). IfOk result (λ answer. IfOk answer (FitsFlash m.size))) medium reads.fits;
+      apart = λ told. subst (λ (n : ℕ). IfOk result (λ answer. IfOk answer (IsApart at n))) (counted told) reads.apart;
     }
 
 -- The rows were read, and their areas are checked.
 pub reads_areas : (at count size : ℕ) (old new : FlashState) (rows : List ℕ) (checked : Result Map MapFault) → size ≡ old.medium.size → length rows ≡ 42 * count
     → Reads {E = Failed} (at + 56) rows old new (Ok tt) → IfErr checked (λ (fault : MapFault). first_fault area_lines (record { size = size; at = at; rows = rows_in (length rows / 42) rows }) ≡ Some fault)
     → OnOk checked (first_fault area_lines (record { size = size; at = at; rows = rows_in (length rows / 42) rows }) ≡ None) → IfOk checked (λ (map : Map). areas_in (rows_in (length rows / 42) rows) ≡ Some map)
-    → IfOk checked (FitsFlash size) → ReadsAreas at count old new (Ok checked)
-reads_areas at count size old new rows checked sized long read fault none areas fits =
+    → IfOk checked (FitsFlash size) → IfOk checked (IsApart at (length rows / 42)) → ReadsAreas at count old new (Ok checked)
+reads_areas at count size old new rows checked sized long read fault none areas fits apart =
     let number : length rows / 42 ≡ count = omega (arith, long) in
     let same : IsTrue old.medium.told → rows_in (length rows / 42) rows ≡ (map_of_rows at count old.medium).rows = λ told.
     ap (λ (n : ℕ). rows_in n rows) number ∙ ap (rows_in count) (read.filled told ∙ ap (range old.medium.bytes (at + 56)) long) in
@@ -53,4 +54,5 @@ reads_areas at count size old new rows checked sized long read fault none areas 
       none = λ told. subst (λ (standing : StandingMap). OnOk checked (first_fault area_lines standing ≡ None)) (standing told) none;
       areas = λ told. subst (λ (rows : List Row). IfOk checked (λ (map : Map). areas_in rows ≡ Some map)) (same told) areas;
       fits = subst (λ (n : ℕ). IfOk checked (FitsFlash n)) sized fits;
+      apart = subst (λ (n : ℕ). IfOk checked (IsApart at n)) number apart;
     }

@@ -6,8 +6,8 @@ use Rattle.board_core.specs.Counters.{Observed}
 use Rattle.board_core.specs.Flash.{FlashMedium, FlashState, range}
 use Rattle.rom_core.specs.declared.map.Map.{Map}
 use Rattle.rom_core.specs.declared.fault.MapFault.{MapFault}
-use Rattle.rom_core.specs.Map.{count_of, is_map_head, is_map_at, rows_in, areas_in, StandingMap, area_lines, MapQuestion, standing_map, map_lines}
-use Rattle.rom_core.specs.MapFits.{FitsFlash}
+use Rattle.rom_core.specs.Map.{count_of, head_at, is_map_head, is_map_at, rows_in, areas_in, StandingMap, area_lines, MapQuestion, standing_map, map_lines}
+use Rattle.rom_core.specs.MapFits.{FitsFlash, IsApart}
 use Rattle.rom_core.specs.declared.layout.TheConstants.{MAP_HEAD, AREA_ROW}
 
 -- the count of areas in the head of a map, where these bytes are one
@@ -30,6 +30,7 @@ pub record ReadsAreas (at count : ℕ) (old new : FlashState) (result : Result (
   pub none : IsTrue old.medium.told → IfOk result (λ answer. OnOk answer (first_fault area_lines (map_of_rows at count old.medium) ≡ None))
   pub areas : IsTrue old.medium.told → IfOk result (λ answer. IfOk answer (λ map. areas_in (map_of_rows at count old.medium).rows ≡ Some map))
   pub fits : IfOk result (λ answer. IfOk answer (FitsFlash old.medium.size))
+  pub apart : IfOk result (λ answer. IfOk answer (IsApart at count))
 
 -- The map at a place is read.
 pub record ReadsMap (at : ℕ) (old new : FlashState) (result : Result (Result Map MapFault) Failed) : Type 0 where
@@ -42,6 +43,8 @@ pub record ReadsMap (at : ℕ) (old new : FlashState) (result : Result (Result M
   pub areas : IsTrue old.medium.told → IfOk result (λ answer. IfOk answer (λ map. areas_in (standing_map (map_question at old.medium)).rows ≡ Some map))
   -- whatever the flash tells, they fit it
   pub fits : IfOk result (λ answer. IfOk answer (FitsFlash old.medium.size))
+  -- the pages of nvdata are none of the bytes that the map and the other areas have
+  pub apart : IsTrue old.medium.told → IfOk result (λ answer. IfOk answer (IsApart at (count_of (head_at old.medium.bytes at))))
 
 -- ---- looking for a map
 

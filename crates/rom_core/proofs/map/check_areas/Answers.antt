@@ -1,8 +1,8 @@
 -- The six areas are there, inside, small and well shaped: only whether they overlap is left.
 use Rattle.std.proofs.Common.{◌≡◌, ◌/◌, ◌∙◌, ap, sym, true, false, length}
-use Rattle.std.proofs.lemmas.Bool.{not-true}
+use Rattle.std.proofs.lemmas.Bool.{not-true, or_parts, ltb-false}
 use Rattle.rom_core.specs.Map.{rows_in, StandingMap, any_overlap, map_area}
-use Rattle.rom_core.proofs.MapFaults.{length-rows_in, area_lines-last, fits_of}
+use Rattle.rom_core.proofs.MapFaults.{length-rows_in, area_lines-last, fits_of, apart_areas}
 use Rattle.rom_core.proofs.map.check_areas.Goals as goal
 
 pub returns-then-overlaps-clause-fault : goal.returns-then-overlaps-clause-fault
@@ -32,3 +32,9 @@ returns-clause-fits c =
     fits_of c.args.size c.in-Some.map (not-true _ (sym c.is_in.ensures ∙ c.if-not-is_in.false))
     (sym c.is_too_large.ensures ∙ c.if-is_too_large.false)
     (sym c.is_misshapen.ensures ∙ c.if-is_misshapen.false)
+
+pub returns-clause-apart : goal.returns-clause-apart
+returns-clause-apart c =
+    apart_areas c.args.at (length c.args.rows.now / 42) c.in-Some.map
+    (ltb-false _ _ (or_parts _ _ (sym c.is_misshapen.ensures ∙ c.if-is_misshapen.false)).1)
+    (ap (λ area. any_overlap area c.in-Some.map) (sym c.map_area.ensures) ∙ sym c.overlaps.ensures ∙ c.if-overlaps.false)

@@ -1,0 +1,10 @@
+-- The lemmas of this crate.
+pub mod AllBelow
+pub mod Padding
+pub mod Fronts
+pub mod Encoding
+pub mod TornParts
+pub mod CopyPlaces
+pub mod TableRows
+pub mod CommitSteps
+pub mod SettledReads

@@ -3,6 +3,8 @@ pub mod AllBelow
 pub mod Padding
 pub mod Fronts
 pub mod Encoding
+pub mod Checks
+pub mod Gives
 pub mod TornParts
 pub mod CopyPlaces
 pub mod TableRows

@@ -84,9 +84,13 @@ is_good_header side sectors header =
     && (has_place side sectors header && has_entries_place side sectors header)
     && (has_counts header && has_bounds sectors header)
 
+-- the tests of the entries
+abbrev pub are_good_entries : List ℕ → List ℕ → Bool
+are_good_entries header entries = has_entries_crc header entries && has_good_entries header entries
+
 -- The nine tests of a copy. The alternate LBA is not looked at, so that the copy of a smaller disk's bytes is read.
 abbrev pub is_good_copy : Side → ℕ → List ℕ → List ℕ → Bool
-is_good_copy side sectors header entries = has_size sectors && is_good_header side sectors header && has_entries_crc header entries && has_good_entries header entries
+is_good_copy side sectors header entries = has_size sectors && (is_good_header side sectors header && are_good_entries header entries)
 
 -- what these parts say
 abbrev pub table_from : List ℕ → List ℕ → PartitionTable

@@ -6,6 +6,7 @@
 #![tactic(auto)]
 
 mod bytes;
+mod checking;
 mod committing;
 mod entries;
 mod entry;

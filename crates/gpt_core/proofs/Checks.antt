@@ -16,7 +16,7 @@ table_there side sectors header entries size passes =
     cond-true (is_good_copy side sectors header entries) (Some (table_from header entries)) None
     (ap (λ (b : Bool). b && (is_good_header side sectors header && are_good_entries header entries)) size ∙ passes)
 
-and-false : (b : Bool) → (b && false) ≡ false
+pub and-false : (b : Bool) → (b && false) ≡ false
 and-false true = refl
 and-false false = refl
 

@@ -4,7 +4,7 @@ use Rattle.std.proofs.lemmas.List.{drop-drop, drop_at, length-take-le, append_as
 use Rattle.gpt_core.specs.Room.{IsPadded}
 use borrow.Rule.Slice.PartMut.{put_mid}
 
-drop-zeros : (k n : ℕ) → drop {A = ℕ} k (replicate n 0) ≡ replicate (n - k) 0
+pub drop-zeros : (k n : ℕ) → drop {A = ℕ} k (replicate n 0) ≡ replicate (n - k) 0
 drop-zeros zero n =
     let whole : n - zero ≡ n = omega arith in
     ap (λ m. replicate m 0) (sym whole)

@@ -55,9 +55,13 @@ with_entry entries k entry = spliced entries (128 * k) (entry_bytes entry)
 abbrev pub with_attributes : List ℕ → ℕ → ℕ → List ℕ
 with_attributes entries k attributes = with_number 8 entries (128 * k + 48) attributes
 
+-- so many zeros
+unfoldable pub zeros : ℕ → List ℕ
+zeros count = replicate count 0
+
 -- no entry is used
-unfoldable pub no_entries : List ℕ
-no_entries = replicate 16384 0
+abbrev pub no_entries : List ℕ
+no_entries = zeros 16384
 
 -- ---- entries that fit
 

@@ -7,7 +7,7 @@ use crate::layout::{ENTRY_COUNT, ENTRY_FIRST, ENTRY_LAST, ENTRY_SIZE, ENTRY_UNIQ
 use wire_core::u64_at;
 
 // Where entry `k` begins, from 0.
-fn place_of(k: u32) -> usize
+pub(crate) fn place_of(k: u32) -> usize
     requires { k < 128 }
     ensures place { result ≡ 128 * k }
     ensures inside { result + 128 ≤ 16384 }

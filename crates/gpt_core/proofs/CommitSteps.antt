@@ -14,7 +14,7 @@ use Rattle.gpt_core.specs.declared.side.Side.TheVariants.{Primary, Backup}
 use Rattle.gpt_core.specs.Copies.{other_side, first_side, entries_lba, header_lba, copy_at, copy_of, Content, image_of, header_of, with_copy, committed}
 use Rattle.gpt_core.specs.Format.{PartitionTable, table_of_image}
 use Rattle.gpt_core.specs.Tables.{copy_table, table_in, table_on, or_else, BothHold, GivesTable, IsSource, IsFairCopy, IsFairDisk}
-use Rattle.gpt_core.specs.Commits.{InOrder, KeepsOutside, IsOfCommit}
+use Rattle.gpt_core.specs.Commits.{InOrder, SameButCopies, IsOfCommit}
 use Rattle.board_core.proofs.OverlaidRanges.{IsApart, range-range, range-overlaid_apart, range-overlaid_agree}
 use Rattle.gpt_core.proofs.TornParts.{IsPartOf, TornIn, torn_in-both}
 use Rattle.gpt_core.proofs.CopyPlaces.{FitsContent, length-header, copy_inside, copies_apart, fits_copy, entries_stand, header_stands, both_ranges, length-with_copy, copy_put, range-with_copy, other_stays, committed_from, copy_committed}
@@ -74,18 +74,18 @@ between_apart : (side : Side) (sectors : ℕ) → 69 ≤ sectors → (copy_at si
 between_apart Primary sectors enough = inl (omega arith)
 between_apart Backup sectors enough = inr (omega arith)
 
-pub keeps_then : (sectors : ℕ) (old mid new : List ℕ) → KeepsOutside sectors old mid → KeepsOutside sectors mid new → KeepsOutside sectors old new
+pub keeps_then : (sectors : ℕ) (old mid new : List ℕ) → SameButCopies sectors old mid → SameButCopies sectors mid new → SameButCopies sectors old new
 keeps_then sectors old mid new one two = record { size = two.size ∙ one.size; before = two.before ∙ one.before; between = two.between ∙ one.between }
 
-pub keeps_written : (side : Side) (sectors : ℕ) (content : Content) (old new : List ℕ) → 69 ≤ sectors → FitsContent content → length old ≡ sectors * 512 → new ≡ with_copy side sectors content old → KeepsOutside sectors old new
+pub keeps_written : (side : Side) (sectors : ℕ) (content : Content) (old new : List ℕ) → 69 ≤ sectors → FitsContent content → length old ≡ sectors * 512 → new ≡ with_copy side sectors content old → SameButCopies sectors old new
 keeps_written side sectors content old new enough fits size is =
-    subst (KeepsOutside sectors old) (sym is) (record {
+    subst (SameButCopies sectors old) (sym is) (record {
       size = length-with_copy side sectors content old enough fits size ∙ sym size;
       before = range-with_copy side sectors content old 0 512 enough fits size (omega arith) (before_apart side sectors enough);
       between = range-with_copy side sectors content old 17408 ((sectors - 67) * 512) enough fits size (omega arith) (between_apart side sectors enough);
     })
 
-pub keeps_torn : (side : Side) (sectors : ℕ) (target : List ℕ) (old new : DiskMedium) → 69 ≤ sectors → length old.bytes ≡ sectors * 512 → TornIn (sectors * 512) (copy_at side sectors) 16896 target old new → KeepsOutside sectors old.bytes new.bytes
+pub keeps_torn : (side : Side) (sectors : ℕ) (target : List ℕ) (old new : DiskMedium) → 69 ≤ sectors → length old.bytes ≡ sectors * 512 → TornIn (sectors * 512) (copy_at side sectors) 16896 target old new → SameButCopies sectors old.bytes new.bytes
 keeps_torn side sectors target old new enough size torn = record {
   size = ap length torn.bytes ∙ length-overlaid (sectors * 512) old.bytes (added old.torn new.torn) size torn.sectors ∙ sym size;
   before = range-torn (sectors * 512) (copy_at side sectors) target old new 0 512 size (omega arith) (before_apart side sectors enough) torn;
@@ -96,7 +96,7 @@ keeps_torn side sectors target old new enough size torn = record {
 
 -- What a commit that failed leaves, whichever copy was torn.
 pub record CommitLeft (content : Content) (old new : DiskMedium) : Type 0 where
-  pub frame : KeepsOutside old.sectors old.bytes new.bytes
+  pub frame : SameButCopies old.sectors old.bytes new.bytes
   pub kept : Grown old.torn new.torn
   pub noted : All (IsOfCommit old.sectors (committed old.sectors content old.bytes)) (added old.torn new.torn)
 
@@ -236,7 +236,7 @@ table_second source table side second content target old mid new enough fits siz
 -- ---- for callers
 
 -- a range between the copies, as one of a partition, stays
-pub keeps_range : (sectors : ℕ) (old new : List ℕ) (lo n : ℕ) → KeepsOutside sectors old new → 17408 ≤ lo → lo + n ≤ 17408 + (sectors - 67) * 512 → range new lo n ≡ range old lo n
+pub keeps_range : (sectors : ℕ) (old new : List ℕ) (lo n : ℕ) → SameButCopies sectors old new → 17408 ≤ lo → lo + n ≤ 17408 + (sectors - 67) * 512 → range new lo n ≡ range old lo n
 keeps_range sectors old new lo n keeps from to =
     let place : 17408 + (lo - 17408) ≡ lo = omega arith in
     let within : lo - 17408 + n ≤ (sectors - 67) * 512 = omega arith in

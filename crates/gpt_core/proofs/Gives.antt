@@ -50,12 +50,13 @@ holds_any first crc rest header f r small is =
     let taken : take 92 header ≡ front ++ rest = ap (λ n. take n header) (sym head) ∙ begins.is in
     let left : take 16 (front ++ rest) ≡ first =
     ap (take 16) (append_assoc first (little_bytes 4 crc) rest) ∙ take_at first (little_bytes 4 crc ++ rest) 16 f in
-    let right : drop 20 (front ++ rest) ≡ rest = drop_at front rest 20 twenty in
-    (ap length is ∙ omega (arith, length-append (front ++ rest) (replicate 420 0), head, zeros),
-     ap (λ n. take n header) (sym f) ∙ begins''.is,
-     number_last 4 crc header first 16 begins' f small,
-     ap (λ (b : List ℕ). with_number 4 b 16 0) taken ∙ ap (λ (b : List ℕ). b ++ little_bytes 4 0 ++ drop 20 (front ++ rest)) left ∙ ap (λ (b : List ℕ). first ++ little_bytes 4 0 ++ b) right,
-     begins)
+    let right : drop 20 (front ++ rest) ≡ rest = drop_at front rest 20 twenty in (
+      ap length is ∙ omega (arith, length-append (front ++ rest) (replicate 420 0), head, zeros),
+      ap (λ n. take n header) (sym f) ∙ begins''.is,
+      number_last 4 crc header first 16 begins' f small,
+      ap (λ (b : List ℕ). with_number 4 b 16 0) taken ∙ ap (λ (b : List ℕ). b ++ little_bytes 4 0 ++ drop 20 (front ++ rest)) left ∙ ap (λ (b : List ℕ). first ++ little_bytes 4 0 ++ b) right,
+      begins,
+    )
 
 header_holds : (crc : ℕ) (rest header : List ℕ) → length rest ≡ 72 → crc < 256 ^ 4 → header ≡ header_with crc rest ++ replicate 420 0 → HeaderHolds crc rest header
 header_holds crc rest header r small is =

@@ -9,6 +9,9 @@ pub mod Units
 pub mod Validity
 pub mod Committed
 pub mod ReadTables
+pub mod PairTests
+pub mod Sources
+pub mod UsedEntries
 pub mod TornParts
 pub mod CopyPlaces
 pub mod TableRows

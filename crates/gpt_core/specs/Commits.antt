@@ -12,7 +12,7 @@ use Rattle.gpt_core.specs.Format.{PartitionTable, content_of}
 use Rattle.gpt_core.specs.Tables.{table_on, BothHold, IsFairDisk}
 
 -- All bytes outside both copies stay: sector 0, and those between the copies.
-pub record KeepsOutside (sectors : ℕ) (old new : List ℕ) : Type 0 where
+pub record SameButCopies (sectors : ℕ) (old new : List ℕ) : Type 0 where
   pub size : length new ≡ length old
   pub before : take 512 new ≡ take 512 old
   pub between : range new 17408 ((sectors - 67) * 512) ≡ range old 17408 ((sectors - 67) * 512)
@@ -38,7 +38,7 @@ pub record WritesBoth {E : Type 0} (content : Content) (old new : DiskState) (re
   -- nothing is pending, whatever the answer
   pub none_pending : new.medium.pending ≡ 0
   -- whatever the answer
-  pub frame : IsTrue old.medium.told → KeepsOutside old.medium.sectors old.medium.bytes new.medium.bytes
+  pub frame : IsTrue old.medium.told → SameButCopies old.medium.sectors old.medium.bytes new.medium.bytes
   -- both copies stand, all else stays, and no record was added
   pub ok : IsTrue old.medium.told → OnOk result (Flushed (record old.medium { bytes = committed old.medium.sectors content old.medium.bytes }) new.medium)
   -- no record is lost

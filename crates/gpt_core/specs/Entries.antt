@@ -1,6 +1,6 @@
 -- The entries of a table: 128 of them, each of 128 bytes, one behind the other. Entry k here is the one of index k + 1.
 -- Source: the UEFI specification, section 5.3.3 ("GPT Partition Entry Array").
-use Rattle.std.specs.Prelude.{ℕ, zero, suc, ◌+◌, ◌*◌, Bool, true, not, ◌&&◌, ◌||◌, nat_eq, nat_lt, nat_le, List, [], ◌∷◌, ◌++◌, replicate, drop}
+use Rattle.std.specs.Prelude.{◌≡◌, ◌<◌, ◌≤◌, ◌⊎◌, ℕ, zero, suc, ◌+◌, ◌*◌, Bool, true, not, ◌&&◌, ◌||◌, nat_eq, nat_lt, nat_le, List, [], ◌∷◌, ◌++◌, replicate, drop}
 use Rattle.std.specs.List.{flat_map}
 use Rattle.std.specs.Cmp.Lexicographic.{pointwise}
 use Rattle.byteorder.specs.Endian.{little_bytes, little_number}
@@ -102,6 +102,26 @@ pair_fits entries k j = not (is_used entries j) || are_apart entries j k
 abbrev pub fits_earlier : List ℕ → ℕ → Bool
 fits_earlier entries k = not (is_used entries k) || all_below k (pair_fits entries k)
 
--- Each used entry lies within these sectors, and no two used entries share a sector or a unique GUID.
+-- Each used entry lies within these sectors, and no two used entries share a sector or a unique GUID: as a test.
 unfoldable pub entries_fit : ℕ → ℕ → List ℕ → Bool
 entries_fit first last entries = all_below 128 (entry_fits first last entries) && all_below 128 (fits_earlier entries)
+
+-- ---- the same as a statement over entries and pairs of them, in whole numbers
+
+abbrev pub IsUsed : List ℕ → ℕ → Type 0
+IsUsed entries k = kind_in entries k ≡ replicate 16 0 → ⊥
+
+-- Entry k lies within these sectors.
+pub record LiesWithin (first last : ℕ) (entries : List ℕ) (k : ℕ) : Type 0 where
+  pub begins : first ≤ first_in entries k
+  pub ordered : first_in entries k ≤ last_in entries k
+  pub ends : last_in entries k ≤ last
+
+-- Two entries share no sector and have not the same unique GUID.
+pub record AreApart (entries : List ℕ) (j k : ℕ) : Type 0 where
+  pub sectors : (last_in entries j < first_in entries k) ⊎ (last_in entries k < first_in entries j)
+  pub unique : unique_in entries j ≡ unique_in entries k → ⊥
+
+pub record EntriesFit (first last : ℕ) (entries : List ℕ) : Type 0 where
+  pub within : (k : ℕ) → k < 128 → IsUsed entries k → LiesWithin first last entries k
+  pub apart : (j k : ℕ) → j < k → k < 128 → IsUsed entries j → IsUsed entries k → AreApart entries j k

@@ -5,6 +5,6 @@ pub mod Reads
 pub mod Entries
 pub mod Format
 pub mod Heads
-pub mod Room
 pub mod Tables
+pub mod Room
 pub mod Commits

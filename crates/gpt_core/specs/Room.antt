@@ -10,6 +10,7 @@ use Rattle.gpt_core.specs.declared.found.Found.TheVariants as found
 use Rattle.gpt_core.specs.Entries.{zeros, no_entries, with_entry, with_attributes}
 use Rattle.gpt_core.specs.Format.{PartitionTable, IsValidTable, table_of_image}
 use Rattle.gpt_core.specs.Copies.{copy_of}
+use Rattle.gpt_core.specs.Tables.{IsSource}
 use Rattle.gpt_core.specs.Reads.{KeepsDisk}
 
 -- Bytes with zeros behind so many of them, up to a sector.
@@ -117,3 +118,10 @@ pub record ReadsTable {E : Type 0} (old new : DiskState) (room : RoomView) (resu
   -- and is what the copies say
   pub found : IsTrue old.medium.told → IfOk result (λ what. IsFoundOn what old.medium.sectors old.medium.bytes room.table)
   pub failed : OnErr result (room ≡ empty_room)
+
+-- What a commit asks of the disk and of the room.
+pub record CanCommit (disk : DiskState) (room : RoomView) : Type 0 where
+  pub settled : disk.medium.pending ≡ 0
+  pub known : 1 ≤ room.sectors
+  pub same_disk : room.sectors ≡ disk.medium.sectors
+  pub source : IsTrue disk.medium.told → IsSource room.source disk.medium.sectors disk.medium.bytes

@@ -5,7 +5,9 @@ ghost use Rattle.gpt_core.specs.Entries.{units_in, entry_in, entry_bytes, with_e
 
 use crate::bytes::Bytes;
 use crate::entries::place_of;
-use crate::layout::{ENTRY_ATTRIBUTES, ENTRY_FIRST, ENTRY_LAST, ENTRY_NAME, ENTRY_SIZE, ENTRY_UNIQUE, GUID_SIZE};
+use crate::layout::{
+    ENTRY_ATTRIBUTES, ENTRY_FIRST, ENTRY_LAST, ENTRY_NAME, ENTRY_SIZE, ENTRY_UNIQUE, GUID_SIZE,
+};
 use byteorder::{ByteOrder, LittleEndian};
 use wire_core::{put_u64, u64_at};
 

@@ -5,7 +5,11 @@ ghost use Rattle.gpt_core.specs.Format.{has_signature, has_own_crc, has_place, h
 ghost use Rattle.gpt_core.specs.Heads.{head_in, table_with};
 
 use crate::bytes::Bytes;
-use crate::layout::{BACKUP_SECTORS, DISK_GUID, ENTRIES_CRC, ENTRIES_LBA, ENTRY_COUNT, ENTRY_COUNT_AT, ENTRY_SIZE, ENTRY_SIZE_AT, FIRST_USABLE, GUID_SIZE, HEADER_CRC, HEADER_SIZE, LAST_USABLE, LEAST_USABLE, MY_LBA, SECTOR, SIGNATURE};
+use crate::layout::{
+    BACKUP_SECTORS, DISK_GUID, ENTRIES_CRC, ENTRIES_LBA, ENTRY_COUNT, ENTRY_COUNT_AT, ENTRY_SIZE,
+    ENTRY_SIZE_AT, FIRST_USABLE, GUID_SIZE, HEADER_CRC, HEADER_SIZE, LAST_USABLE, LEAST_USABLE,
+    MY_LBA, SECTOR, SIGNATURE,
+};
 use crate::side::{Side, entries_place, header_place, other_of};
 use wire_core::{crc32, put_u32, u32_at, u64_at};
 

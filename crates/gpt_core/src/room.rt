@@ -1,6 +1,6 @@
 // The room for the table of a disk.
 ghost use Rattle.std.specs.Prelude.{◌≡◌, ◌↔◌, ◌-◌, ◌≤◌, ℕ, true, false, length, IfOk, IsTrue};
-ghost use Rattle.gpt_core.specs.Entries.{entry_in, entries_fit, with_entry};
+ghost use Rattle.gpt_core.specs.Entries.{entry_in, EntriesFit, with_entry};
 ghost use Rattle.gpt_core.specs.Format.{IsValidTable};
 ghost use Rattle.gpt_core.specs.Room.{empty_room, found_room, committed_room, new_table, table_with_entry, table_with_attributes, IsValidFound};
 
@@ -94,7 +94,7 @@ impl GptRoom {
     pub fn set_entry(&mut self, index: u32, entry: &Entry)
         requires least { 1 ≤ index }
         requires most { index ≤ 128 }
-        requires fits { entries_fit self.old.table.first_usable self.old.table.last_usable (with_entry self.old.table.entries (index - 1) entry.now) ≡ true }
+        requires fits { EntriesFit self.old.table.first_usable self.old.table.last_usable (with_entry self.old.table.entries (index - 1) entry.now) }
         ensures { self.new ≡ record self.old { table = table_with_entry self.old.table (index - 1) entry.now } }
     {
         self.table.set_entry(index - 1, entry);

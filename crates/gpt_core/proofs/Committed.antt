@@ -4,14 +4,11 @@ use Rattle.std.specs.Prelude.{OnErr}
 use Rattle.board_core.specs.Disk.{DiskState}
 use Rattle.gpt_core.specs.declared.side.Side.{Side}
 use Rattle.gpt_core.specs.declared.side.Side.TheVariants.{Primary, Backup}
-use Rattle.gpt_core.specs.Copies.{Content}
+use Rattle.gpt_core.specs.Copies.{Content, content_with}
 use Rattle.gpt_core.specs.Format.{PartitionTable, IsValidTable, content_of, header_sector}
 use Rattle.gpt_core.specs.Tables.{BothHold, GivesTable, IsSource}
 use Rattle.gpt_core.specs.Commits.{WritesBoth, InOrder, FailsToCommit, Commits}
 use Rattle.gpt_core.proofs.Gives.{valid_gives}
-
-abbrev content_with : List ℕ → List ℕ → List ℕ → Content
-content_with entries primary backup = record { entries = entries; primary = primary; backup = backup }
 
 -- what is written, part by part
 pub same_content : (sectors sectors' : ℕ) (table : PartitionTable) (entries primary backup : List ℕ) → sectors ≡ sectors' → entries ≡ table.entries → primary ≡ header_sector Primary sectors table → backup ≡ header_sector Backup sectors table

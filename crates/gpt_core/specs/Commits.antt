@@ -40,10 +40,12 @@ pub record WritesBoth {E : Type 0} (content : Content) (old new : DiskState) (re
   -- whatever the answer
   pub frame : IsTrue old.medium.told → SameButCopies old.medium.sectors old.medium.bytes new.medium.bytes
   -- both copies stand, all else stays, and no record was added
-  pub ok : IsTrue old.medium.told → OnOk result (Flushed (record old.medium { bytes = committed old.medium.sectors content old.medium.bytes }) new.medium)
+  pub ok : IsTrue old.medium.told → OnOk result
+      (Flushed (record old.medium { bytes = committed old.medium.sectors content old.medium.bytes }) new.medium)
   -- no record is lost
   pub kept : IsTrue old.medium.told → Grown old.medium.torn new.medium.torn
-  pub noted : IsTrue old.medium.told → All (IsOfCommit old.medium.sectors (committed old.medium.sectors content old.medium.bytes)) (added old.medium.torn new.medium.torn)
+  pub noted : IsTrue old.medium.told →
+      All (IsOfCommit old.medium.sectors (committed old.medium.sectors content old.medium.bytes)) (added old.medium.torn new.medium.torn)
 
 -- The second copy is touched only when the first one stands. The first is the one that is not the source, and the primary
 -- where there is no source.
@@ -61,7 +63,8 @@ abbrev pub bytes_with_table : ℕ → PartitionTable → List ℕ → List ℕ
 bytes_with_table sectors table bytes = committed sectors (content_of sectors table) bytes
 
 -- The commit of a table.
-pub record Commits {E : Type 0} (source : Option Side) (table : PartitionTable) (old new : DiskState) (result : Result Unit E) : Type 0 where
+pub record Commits {E : Type 0} (source : Option Side) (table : PartitionTable)
+    (old new : DiskState) (result : Result Unit E) : Type 0 where
   -- 6 changing calls at most, nothing is pending, and all outside both copies stays
   pub writes : WritesBoth (content_of old.medium.sectors table) old new result
   pub order : IsTrue old.medium.told → OnErr result (InOrder source (content_of old.medium.sectors table) old.medium new.medium)

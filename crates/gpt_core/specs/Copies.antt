@@ -46,6 +46,9 @@ pub record Content : Type 0 where
   pub primary : List ℕ
   pub backup : List ℕ
 
+abbrev pub content_with : List ℕ → List ℕ → List ℕ → Content
+content_with entries primary backup = record { entries = entries; primary = primary; backup = backup }
+
 abbrev pub header_of : Side → List ℕ → List ℕ → List ℕ
 header_of Primary primary backup = primary
 header_of Backup primary backup = backup

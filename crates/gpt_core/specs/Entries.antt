@@ -46,7 +46,8 @@ entry_in entries k = record {
 -- its 128 bytes
 abbrev pub entry_bytes : Entry → List ℕ
 entry_bytes entry =
-    entry.kind ++ entry.unique ++ little_bytes 8 entry.first ++ little_bytes 8 entry.last ++ little_bytes 8 entry.attributes ++ flat_map (little_bytes 2) entry.name
+    entry.kind ++ entry.unique ++ little_bytes 8 entry.first ++ little_bytes 8 entry.last
+    ++ little_bytes 8 entry.attributes ++ flat_map (little_bytes 2) entry.name
 
 -- the entries with this one in the place of entry k, or with these attributes in it
 abbrev pub with_entry : List ℕ → ℕ → Entry → List ℕ
@@ -71,7 +72,8 @@ is_used entries k = not (pointwise nat_eq (kind_in entries k) (replicate 16 0))
 
 -- it begins no later than it ends, and lies in the usable sectors
 abbrev pub lies_within : ℕ → ℕ → List ℕ → ℕ → Bool
-lies_within first last entries k = nat_le (first_in entries k) (last_in entries k) && nat_le first (first_in entries k) && nat_le (last_in entries k) last
+lies_within first last entries k =
+    nat_le (first_in entries k) (last_in entries k) && nat_le first (first_in entries k) && nat_le (last_in entries k) last
 
 -- two entries have the same unique GUID
 abbrev pub have_one_guid : List ℕ → ℕ → ℕ → Bool

@@ -9,7 +9,7 @@ use Rattle.wire_core.specs.Crc32.{crc32_of}
 use Rattle.board_core.specs.Flash.{range}
 use Rattle.gpt_core.specs.declared.side.Side.{Side}
 use Rattle.gpt_core.specs.declared.side.Side.TheVariants.{Primary, Backup}
-use Rattle.gpt_core.specs.Copies.{Content, header_lba, entries_lba, other_side}
+use Rattle.gpt_core.specs.Copies.{Content, content_with, header_lba, entries_lba, other_side}
 use Rattle.gpt_core.specs.Entries.{entries_fit}
 
 -- What a copy says: the GUID of the disk, as it is stored, the first and the last usable sector, and the bytes of the
@@ -94,7 +94,12 @@ is_good_copy side sectors header entries = has_size sectors && (is_good_header s
 
 -- what these parts say
 abbrev pub table_from : List ℕ → List ℕ → PartitionTable
-table_from header entries = record { guid = range header 56 16; first_usable = number_at 8 header 40; last_usable = number_at 8 header 48; entries = entries }
+table_from header entries = record {
+  guid = range header 56 16;
+  first_usable = number_at 8 header 40;
+  last_usable = number_at 8 header 48;
+  entries = entries;
+}
 
 abbrev pub table_of_parts : Side → ℕ → List ℕ → List ℕ → Option PartitionTable
 table_of_parts side sectors header entries = if is_good_copy side sectors header entries then Some (table_from header entries) else None
@@ -123,7 +128,7 @@ header_sector side sectors table =
 
 -- what a commit of this table writes
 abbrev pub content_of : ℕ → PartitionTable → Content
-content_of sectors table = record { entries = table.entries; primary = header_sector Primary sectors table; backup = header_sector Backup sectors table }
+content_of sectors table = content_with table.entries (header_sector Primary sectors table) (header_sector Backup sectors table)
 
 -- ---- tables that can be written
 

@@ -7,7 +7,7 @@ use Rattle.gpt_core.specs.declared.side.Side.TheVariants.{Primary, Backup}
 use Rattle.gpt_core.specs.declared.entry.Entry.{Entry}
 use Rattle.gpt_core.specs.declared.found.Found.{Found}
 use Rattle.gpt_core.specs.declared.found.Found.TheVariants as found
-use Rattle.gpt_core.specs.Entries.{zeros, no_entries, with_entry, with_attributes}
+use Rattle.gpt_core.specs.Entries.{zeros, no_entries, EntriesFit, with_entry, with_attributes}
 use Rattle.gpt_core.specs.Format.{PartitionTable, IsValidTable, table_of_image}
 use Rattle.gpt_core.specs.Copies.{copy_of}
 use Rattle.gpt_core.specs.Tables.{IsSource}
@@ -48,6 +48,10 @@ table_with_entry table k entry = record table { entries = with_entry table.entri
 abbrev pub table_with_attributes : PartitionTable → ℕ → ℕ → PartitionTable
 table_with_attributes table k attributes = record table { entries = with_attributes table.entries k attributes }
 
+-- what is asked of an entry that is put into a table: the entries fit then
+abbrev pub Fits : PartitionTable → ℕ → Entry → Type 0
+Fits table k entry = EntriesFit table.first_usable table.last_usable (with_entry table.entries k entry)
+
 -- ---- rooms
 
 abbrev pub empty_room : RoomView
@@ -57,15 +61,23 @@ empty_room = record { sectors = 0; source = None; agree = false; found = empty_t
 abbrev pub IsSound : ℕ → PartitionTable → Type 0
 IsSound sectors table = 1 ≤ sectors → IsValidTable sectors table
 
--- a room with a table that was found
+-- a room with a table that was read
+abbrev pub room_with : ℕ → Side → Bool → PartitionTable → RoomView
+room_with sectors source agree table = record { sectors = sectors; source = Some source; agree = agree; found = table; table = table }
+
+-- the same, as it was found
 abbrev pub found_room : Found → ℕ → PartitionTable → RoomView
-found_room (found.Primary agree) sectors table = record { sectors = sectors; source = Some Primary; agree = agree; found = table; table = table }
-found_room found.Backup sectors table = record { sectors = sectors; source = Some Backup; agree = false; found = table; table = table }
+found_room (found.Primary agree) sectors table = room_with sectors Primary agree table
+found_room found.Backup sectors table = room_with sectors Backup false table
 found_room found.None sectors table = empty_room
+
+-- a room in which a table was started: what was read stays noted
+abbrev pub started_room : RoomView → ℕ → List ℕ → RoomView
+started_room room sectors guid = record room { sectors = sectors; table = new_table sectors guid }
 
 -- a room whose table stands in both copies of the disk
 abbrev pub committed_room : RoomView → RoomView
-committed_room room = record { sectors = room.sectors; source = Some Primary; agree = true; found = room.table; table = room.table }
+committed_room room = room_with room.sectors Primary true room.table
 
 -- ---- what is found
 
@@ -73,8 +85,10 @@ committed_room room = record { sectors = room.sectors; source = Some Primary; ag
 abbrev pub IsFoundIn : Found → ℕ → List ℕ → List ℕ → PartitionTable → Type 0
 IsFoundIn (found.Primary agree) sectors primary backup table =
     (table_of_image Primary sectors primary ≡ Some table) × (IsTrue agree ↔ (table_of_image Backup sectors backup ≡ Some table))
-IsFoundIn found.Backup sectors primary backup table = (table_of_image Primary sectors primary ≡ None) × (table_of_image Backup sectors backup ≡ Some table)
-IsFoundIn found.None sectors primary backup table = (table_of_image Primary sectors primary ≡ None) × (table_of_image Backup sectors backup ≡ None)
+IsFoundIn found.Backup sectors primary backup table =
+    (table_of_image Primary sectors primary ≡ None) × (table_of_image Backup sectors backup ≡ Some table)
+IsFoundIn found.None sectors primary backup table =
+    (table_of_image Primary sectors primary ≡ None) × (table_of_image Backup sectors backup ≡ None)
 
 -- the same in the bytes of a disk
 abbrev pub IsFoundOn : Found → ℕ → List ℕ → PartitionTable → Type 0
@@ -98,7 +112,9 @@ pub record Takes (side : Side) (sectors : ℕ) (copy : List ℕ) (table : Partit
 pub record ReadsBoth {E : Type 0} (primary backup : List ℕ) (old new : DiskState) (result : Result Unit E) : Type 0 where
   pub counters : Observed old.counters new.counters (is_err result)
   pub keeps : KeepsDisk old.medium new.medium
-  pub filled : IsTrue old.medium.told → IfOk result (λ done. (primary ≡ copy_of Primary old.medium.sectors old.medium.bytes) × (backup ≡ copy_of Backup old.medium.sectors old.medium.bytes))
+  pub filled : IsTrue old.medium.told → IfOk result (λ done.
+      (primary ≡ copy_of Primary old.medium.sectors old.medium.bytes)
+      × (backup ≡ copy_of Backup old.medium.sectors old.medium.bytes))
   pub no_fewer : IsTrue old.medium.told → old.medium.sectors_read ≤ new.medium.sectors_read
   pub no_more : IsTrue old.medium.told → new.medium.sectors_read ≤ old.medium.sectors_read + 66
 

@@ -55,7 +55,8 @@ IsSource None sectors bytes = (copy_table Primary sectors bytes ≡ None) × (co
 -- has the table that was to be written.
 abbrev pub IsFairCopy : PartitionTable → Side → ℕ → List ℕ → List ℕ → Type 0
 IsFairCopy table side sectors old left =
-    (copy_table side sectors left ≡ None) ⊎ ((copy_of side sectors left ≡ copy_of side sectors old) ⊎ (copy_table side sectors left ≡ Some table))
+    (copy_table side sectors left ≡ None)
+    ⊎ ((copy_of side sectors left ≡ copy_of side sectors old) ⊎ (copy_table side sectors left ≡ Some table))
 
 -- each copy is fair; one that no new record meets is as it was
 pub record IsFairDisk (table : PartitionTable) (old new : DiskMedium) : Type 0 where

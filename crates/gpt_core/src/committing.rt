@@ -1,6 +1,6 @@
 // Both copies of a table are written, the source last.
 ghost use Rattle.std.specs.Prelude.{◌≡◌, ◌≤◌, length, IsTrue, OnOk, OnErr};
-ghost use Rattle.gpt_core.specs.Copies.{Content};
+ghost use Rattle.gpt_core.specs.Copies.{content_with};
 ghost use Rattle.gpt_core.specs.Format.{PartitionTable};
 ghost use Rattle.gpt_core.specs.Tables.{BothHold, GivesTable, IsSource};
 ghost use Rattle.gpt_core.specs.Commits.{WritesBoth, InOrder, FailsToCommit, Commits};
@@ -25,10 +25,18 @@ pub(crate) fn write_both<D: Disk>(
     requires entries_size { length entries.now ≡ 16384 }
     requires primary_size { length primary.now ≡ 512 }
     requires backup_size { length backup.now ≡ 512 }
-    ensures meets { WritesBoth (record { entries = entries.now; primary = primary.now; backup = backup.now }) (D.state disk.old) (D.state disk.new) result }
-    ensures order { IsTrue (D.state disk.old).medium.told → OnErr result (InOrder source (record { entries = entries.now; primary = primary.now; backup = backup.now }) (D.state disk.old).medium (D.state disk.new).medium) }
-    ensures made { (table : PartitionTable) → GivesTable (record { entries = entries.now; primary = primary.now; backup = backup.now }) table (D.state disk.old).medium.sectors → IsTrue (D.state disk.old).medium.told → OnOk result (BothHold table (D.state disk.old).medium.sectors (D.state disk.new).medium.bytes) }
-    ensures fails { (table : PartitionTable) → GivesTable (record { entries = entries.now; primary = primary.now; backup = backup.now }) table (D.state disk.old).medium.sectors → IsTrue (D.state disk.old).medium.told → OnErr result (IsSource source (D.state disk.old).medium.sectors (D.state disk.old).medium.bytes → FailsToCommit table (D.state disk.old).medium (D.state disk.new).medium) }
+    ensures meets { WritesBoth (content_with entries.now primary.now backup.now) (D.state disk.old) (D.state disk.new) result }
+    ensures order { IsTrue (D.state disk.old).medium.told → OnErr result
+        (InOrder source (content_with entries.now primary.now backup.now) (D.state disk.old).medium (D.state disk.new).medium) }
+    ensures made { (table : PartitionTable)
+        → GivesTable (content_with entries.now primary.now backup.now) table (D.state disk.old).medium.sectors
+        → IsTrue (D.state disk.old).medium.told
+        → OnOk result (BothHold table (D.state disk.old).medium.sectors (D.state disk.new).medium.bytes) }
+    ensures fails { (table : PartitionTable)
+        → GivesTable (content_with entries.now primary.now backup.now) table (D.state disk.old).medium.sectors
+        → IsTrue (D.state disk.old).medium.told
+        → OnErr result (IsSource source (D.state disk.old).medium.sectors (D.state disk.old).medium.bytes
+        → FailsToCommit table (D.state disk.old).medium (D.state disk.new).medium) }
 {
     let first = first_of(source);
     let second = other_of(first);
@@ -54,7 +62,8 @@ pub fn commit<D: Disk>(disk: &mut D, room: &mut GptRoom) -> Result<(), Failed>
     requires settled { (D.state disk.old).medium.pending ≡ 0 }
     requires known { 1 ≤ room.old.sectors }
     requires same_disk { room.old.sectors ≡ (D.state disk.old).medium.sectors }
-    requires source { IsTrue (D.state disk.old).medium.told → IsSource room.old.source (D.state disk.old).medium.sectors (D.state disk.old).medium.bytes }
+    requires source { IsTrue (D.state disk.old).medium.told
+        → IsSource room.old.source (D.state disk.old).medium.sectors (D.state disk.old).medium.bytes }
     ensures meets { Commits room.old.source room.old.table (D.state disk.old) (D.state disk.new) result }
     ensures noted { OnOk result (room.new ≡ committed_room room.old) }
     ensures same { OnErr result (room.new ≡ room.old) }

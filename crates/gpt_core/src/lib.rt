@@ -1,8 +1,12 @@
 //! The GUID partition table of a disk in two copies: it is read from the good one, and both are replaced so that any stop
 //! leaves the old table or the new one.
 //!
-//! - `side` names the two copies and their places, `layout` the places of the fields.
-//! - `reading` reads one copy, `writing` writes one, and `committing` both.
+//! - `side` names the two copies and their places, and `layout` the places of the fields in them.
+//! - `entry` is one entry as its fields, and `entries` whether all of them fit the disk and each other.
+//! - `header` reads and makes a header, `bytes` puts one together, and `checking` tells whether a copy is good.
+//! - `table` is a table in memory, and `room` what a caller holds of a disk: `finding` takes the table of two copies, and
+//!   `found` says which.
+//! - `reading` reads both copies of a disk. `writing` writes one copy, and `committing` both, the source last.
 #![tactic(auto)]
 
 mod bytes;

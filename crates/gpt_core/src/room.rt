@@ -1,8 +1,8 @@
 // The room for the table of a disk.
 ghost use Rattle.std.specs.Prelude.{◌≡◌, ◌↔◌, ◌-◌, ◌≤◌, ℕ, true, false, length, IfOk, IsTrue};
-ghost use Rattle.gpt_core.specs.Entries.{entry_in, EntriesFit, with_entry};
+ghost use Rattle.gpt_core.specs.Entries.{entry_in};
 ghost use Rattle.gpt_core.specs.Format.{IsValidTable};
-ghost use Rattle.gpt_core.specs.Room.{empty_room, found_room, committed_room, new_table, table_with_entry, table_with_attributes, IsValidFound};
+ghost use Rattle.gpt_core.specs.Room.{empty_room, found_room, room_with, started_room, committed_room, Fits, table_with_entry, table_with_attributes, IsValidFound};
 
 use crate::entry::Entry;
 use crate::found::Found;
@@ -94,7 +94,7 @@ impl GptRoom {
     pub fn set_entry(&mut self, index: u32, entry: &Entry)
         requires least { 1 ≤ index }
         requires most { index ≤ 128 }
-        requires fits { EntriesFit self.old.table.first_usable self.old.table.last_usable (with_entry self.old.table.entries (index - 1) entry.now) }
+        requires fits { Fits self.old.table (index - 1) entry.now }
         ensures { self.new ≡ record self.old { table = table_with_entry self.old.table (index - 1) entry.now } }
     {
         self.table.set_entry(index - 1, entry);
@@ -106,7 +106,7 @@ impl GptRoom {
     pub fn start<D: Disk>(&mut self, disk: &mut D, guid: [u8; 16]) -> bool
         ensures disk { D.state disk.new ≡ D.state disk.old }
         ensures answer { IsTrue result ↔ ((69 ≤ (D.state disk.old).medium.sectors) × ((D.state disk.old).medium.sectors ≤ 4294967296)) }
-        ensures started { IsTrue result → self.new ≡ record self.old { sectors = (D.state disk.old).medium.sectors; table = new_table (D.state disk.old).medium.sectors guid } }
+        ensures started { IsTrue result → self.new ≡ started_room self.old (D.state disk.old).medium.sectors guid }
         ensures same { result ≡ false → self.new ≡ self.old }
     {
         let sectors = disk.sectors();
@@ -173,7 +173,7 @@ impl GptRoom {
     // Notes the table as the one that was read.
     fn hold(&mut self, sectors: u64, source: Side, agree: bool)
         requires { IsValidTable sectors self.old.table }
-        ensures { self.new ≡ record { sectors = sectors; source = Some source; agree = agree; found = self.old.table; table = self.old.table } }
+        ensures { self.new ≡ room_with sectors source agree self.old.table }
     {
         self.sectors = sectors;
         self.source = Some(source);

@@ -45,7 +45,8 @@ pub(crate) fn write_side<D: Disk>(
     requires enough { 69 ≤ (D.state disk.old).medium.sectors }
     requires entries_size { length entries.now ≡ 16384 }
     requires header_size { length header.now ≡ 512 }
-    ensures { WritesCopy (entries_lba side (D.state disk.old).medium.sectors) entries.now (header_lba side (D.state disk.old).medium.sectors) header.now (D.state disk.old) (D.state disk.new) result }
+    ensures { WritesCopy (entries_lba side (D.state disk.old).medium.sectors) entries.now
+        (header_lba side (D.state disk.old).medium.sectors) header.now (D.state disk.old) (D.state disk.new) result }
 {
     let sectors = disk.sectors();
     let entries_at = entries_place(side, sectors);

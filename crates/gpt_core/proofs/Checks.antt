@@ -1,10 +1,10 @@
 -- The tests of a copy, as its code takes them.
-use Rattle.std.proofs.Common.{◌≡◌, ℕ, ◌≤◌, Bool, true, false, ◌&&◌, if◌then◌else◌, List, Option, Some, None, refl, ap, sym, ◌∙◌, subst}
+use Rattle.std.proofs.Common.{◌≡◌, ℕ, ◌≤◌, Bool, true, false, ◌&&◌, List, Some, None, refl, ap, sym, ◌∙◌}
 use Rattle.std.specs.Prelude.{nat_le}
 use Rattle.std.proofs.lemmas.Bool.{cond-true, cond-false, le-leb}
 use Rattle.gpt_core.specs.declared.side.Side.{Side}
 use Rattle.gpt_core.specs.declared.header.Head.{Head}
-use Rattle.gpt_core.specs.Format.{PartitionTable, header_in, entries_in, has_size, is_good_header, are_good_entries, is_good_copy, table_from, table_of_parts, table_of_image}
+use Rattle.gpt_core.specs.Format.{header_in, entries_in, has_size, is_good_header, are_good_entries, is_good_copy, table_from, table_of_parts, table_of_image}
 use Rattle.gpt_core.specs.Heads.{head_in, table_with, with_entries}
 
 pub size_fits : (sectors : ℕ) → 69 ≤ sectors → sectors ≤ 4294967296 → has_size sectors ≡ true

@@ -13,7 +13,7 @@ use Rattle.gpt_core.specs.declared.side.Side.{Side}
 use Rattle.gpt_core.specs.declared.side.Side.TheVariants.{Primary, Backup}
 use Rattle.gpt_core.specs.Copies.{other_side, first_side, entries_lba, header_lba, copy_at, copy_of, Content, image_of, header_of, with_copy, committed}
 use Rattle.gpt_core.specs.Format.{PartitionTable, table_of_image}
-use Rattle.gpt_core.specs.Tables.{copy_table, table_in, table_on, or_else, BothHold, GivesTable, IsSource, IsFairCopy, IsFairDisk}
+use Rattle.gpt_core.specs.Tables.{copy_table, table_in, table_on, BothHold, GivesTable, IsSource, IsFairCopy, IsFairDisk}
 use Rattle.gpt_core.specs.Commits.{InOrder, SameButCopies, IsOfCommit}
 use Rattle.board_core.proofs.OverlaidRanges.{IsApart, range-range, range-overlaid_apart, range-overlaid_agree}
 use Rattle.gpt_core.proofs.TornParts.{IsPartOf, TornIn, torn_in-both}

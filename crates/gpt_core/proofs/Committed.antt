@@ -1,5 +1,5 @@
 -- The commit of a table, from what the writing of both copies did.
-use Rattle.std.proofs.Common.{◌≡◌, ℕ, ◌≤◌, List, Option, Some, None, Result, Ok, Err, IsTrue, OnOk, refl, ap, sym, ◌∙◌, subst}
+use Rattle.std.proofs.Common.{◌≡◌, ℕ, List, Option, Result, Ok, Err, IsTrue, OnOk, ap, sym, ◌∙◌, subst}
 use Rattle.std.specs.Prelude.{OnErr}
 use Rattle.board_core.specs.Disk.{DiskState}
 use Rattle.gpt_core.specs.declared.side.Side.{Side}

@@ -1,9 +1,8 @@
 -- A header that is made is read back.
-use Rattle.std.proofs.Common.{◌≡◌, ℕ, ◌+◌, ◌-◌, ◌^◌, ◌<◌, ◌≤◌, List, ◌++◌, length, take, drop, replicate, refl, ap, sym, ◌∙◌, subst, arith, length-append}
-use Rattle.std.proofs.lemmas.List.{take_at, drop_at, length-replicate}
+use Rattle.std.proofs.Common.{◌≡◌, ℕ, ◌+◌, ◌^◌, ◌<◌, List, ◌++◌, length, ap, ◌∙◌, subst, arith, length-append}
 use Rattle.byteorder.specs.Endian.{little_bytes}
 use Rattle.byteorder.specs.Numbers.{length-bytes_low_first}
-use Rattle.wire_core.specs.Fields.{number_at, with_number}
+use Rattle.wire_core.specs.Fields.{number_at}
 use Rattle.board_core.specs.Flash.{range}
 use Rattle.gpt_core.proofs.Fronts.{BeginsWith, begins_itself, begins_before, piece_at, number_last}
 

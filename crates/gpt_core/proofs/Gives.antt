@@ -1,9 +1,8 @@
 -- What is written of a valid table passes the tests of a copy, and gives the table.
-use Rattle.std.proofs.Common.{◌≡◌, ℕ, ◌+◌, ◌-◌, ◌^◌, ◌<◌, ◌≤◌, Bool, true, ◌&&◌, List, ◌++◌, length, take, drop, replicate, Option, Some, refl, ap, sym, ◌∙◌, subst, arith, length-append}
+use Rattle.std.proofs.Common.{◌≡◌, ℕ, ◌+◌, ◌-◌, ◌^◌, ◌<◌, ◌≤◌, Bool, true, ◌&&◌, List, ◌++◌, length, take, drop, replicate, Some, refl, ap, sym, ◌∙◌, subst, arith, length-append}
 use Rattle.std.specs.Prelude.{nat_eq, nat_le}
-use Rattle.std.specs.Cmp.Lexicographic.{pointwise}
 use Rattle.std.proofs.lemmas.Bool.{and_parts, eq-eqb, leb-true}
-use Rattle.std.proofs.lemmas.List.{take_at, drop_at, take-take, drop-take, length-replicate, append_assoc}
+use Rattle.std.proofs.lemmas.List.{take_at, drop_at, length-replicate, append_assoc}
 use Rattle.std.proofs.lemmas.Slice.Eq.{bytes_eq-Decides}
 use Rattle.byteorder.specs.Endian.{little_bytes}
 use Rattle.byteorder.specs.Numbers.{length-bytes_low_first}
@@ -13,12 +12,12 @@ use Rattle.wire_core.proofs.ShiftRegister.{crc32_of-lt}
 use Rattle.board_core.specs.Flash.{range}
 use Rattle.gpt_core.specs.declared.side.Side.{Side}
 use Rattle.gpt_core.specs.declared.side.Side.TheVariants.{Primary, Backup}
-use Rattle.gpt_core.specs.Copies.{other_side, header_lba, entries_lba, image_of}
+use Rattle.gpt_core.specs.Copies.{other_side, header_lba, entries_lba}
 use Rattle.gpt_core.specs.Entries.{entries_fit}
-use Rattle.gpt_core.specs.Format.{PartitionTable, IsValidTable, signature, has_signature, has_own_crc, without_crc, has_place, has_entries_place, has_counts, bounds_fit, has_bounds, has_entries_crc, has_good_entries, has_size, is_good_header, are_good_entries, table_from, table_of_parts, table_of_image, header_in, entries_in, header_rest, header_with, header_sector, content_of}
+use Rattle.gpt_core.specs.Format.{PartitionTable, IsValidTable, signature, has_signature, has_own_crc, without_crc, has_place, has_entries_place, has_counts, bounds_fit, has_bounds, has_entries_crc, has_good_entries, has_size, is_good_header, are_good_entries, table_of_parts, table_of_image, header_in, entries_in, header_rest, header_with, header_sector, content_of}
 use Rattle.gpt_core.specs.Tables.{GivesTable}
-use Rattle.gpt_core.proofs.Fronts.{BeginsWith, begins_itself, begins_before, piece_at, number_last, number_within, range_within}
-use Rattle.gpt_core.proofs.Encoding.{RestHolds, rest_of, rest_holds}
+use Rattle.gpt_core.proofs.Fronts.{BeginsWith, begins_itself, begins_before, number_last, number_within, range_within}
+use Rattle.gpt_core.proofs.Encoding.{RestHolds, rest_holds}
 use Rattle.gpt_core.proofs.Checks.{table_there}
 
 -- ---- a header of 92 bytes and zeros behind it

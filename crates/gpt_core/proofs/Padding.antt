@@ -1,6 +1,6 @@
 -- Bytes with zeros behind them.
-use Rattle.std.proofs.Common.{◌≡◌, ℕ, zero, suc, ◌+◌, ◌-◌, ◌≤◌, List, [], ◌∷◌, ◌++◌, length, take, drop, replicate, refl, ap, sym, ◌∙◌, arith, length-append}
-use Rattle.std.proofs.lemmas.List.{drop-drop, drop_at, length-take-le, append_assoc}
+use Rattle.std.proofs.Common.{◌≡◌, ℕ, zero, suc, ◌+◌, ◌-◌, ◌≤◌, List, ◌++◌, length, take, drop, replicate, ap, sym, ◌∙◌, arith, length-append}
+use Rattle.std.proofs.lemmas.List.{drop_at, length-take-le, append_assoc}
 use Rattle.gpt_core.specs.Room.{IsPadded}
 use borrow.Rule.Slice.PartMut.{put_mid}
 

@@ -1,5 +1,5 @@
 -- A room into which a table was read, or in which one was started where none was found, can be committed.
-use Rattle.std.proofs.Common.{◌≡◌, ℕ, ◌≤◌, Bool, true, ◌&&◌, List, Option, Some, None, IsTrue, Result, Ok, refl, ap, sym, ◌∙◌, subst, arith}
+use Rattle.std.proofs.Common.{◌≡◌, ℕ, ◌≤◌, List, Option, Some, IsTrue, Ok, refl, ap, sym, ◌∙◌, subst, arith}
 use Rattle.std.specs.Prelude.{nat_le}
 use Rattle.std.proofs.lemmas.Bool.{and_parts, leb-true}
 use Rattle.board_core.specs.declared.device.Failed.{Failed}
@@ -8,10 +8,9 @@ use Rattle.gpt_core.specs.declared.side.Side.{Side}
 use Rattle.gpt_core.specs.declared.side.Side.TheVariants.{Primary, Backup}
 use Rattle.gpt_core.specs.declared.found.Found.{Found}
 use Rattle.gpt_core.specs.declared.found.Found.TheVariants as found
-use Rattle.gpt_core.specs.Copies.{copy_of}
-use Rattle.gpt_core.specs.Format.{PartitionTable, IsValidTable, has_size}
+use Rattle.gpt_core.specs.Format.{PartitionTable, IsValidTable}
 use Rattle.gpt_core.specs.Tables.{IsGood, IsSource, copy_table}
-use Rattle.gpt_core.specs.Room.{RoomView, found_room, empty_room, IsFoundOn, IsValidFound, ReadsTable, CanCommit}
+use Rattle.gpt_core.specs.Room.{RoomView, found_room, IsFoundOn, IsValidFound, ReadsTable, CanCommit}
 
 good_some : (one : Option PartitionTable) (table : PartitionTable) → one ≡ Some table → IsGood one
 good_some one table is = subst IsGood (sym is) tt

@@ -1,5 +1,5 @@
 -- Tables that can stand on a disk: those that are found, the new one, and those that a change leaves.
-use Rattle.std.proofs.Common.{◌≡◌, ℕ, zero, suc, ◌+◌, ◌-◌, ◌*◌, ◌<◌, ◌≤◌, ◌⊎◌, inl, inr, Bool, true, false, ◌&&◌, ◌||◌, cond, if◌then◌else◌, List, ◌∷◌, length, take, drop, replicate, Option, Some, None, refl, ap, sym, ◌∙◌, subst, arith, length-take-le, length-drop}
+use Rattle.std.proofs.Common.{◌≡◌, ℕ, zero, suc, ◌+◌, ◌-◌, ◌*◌, ◌<◌, ◌≤◌, ◌⊎◌, Bool, true, false, ◌&&◌, ◌||◌, cond, List, ◌∷◌, length, take, drop, replicate, Some, None, refl, ap, sym, ◌∙◌, subst, arith, length-take-le, length-drop}
 use Rattle.std.specs.Prelude.{nat_eq, nat_le, nat_lt, not}
 use Rattle.std.specs.Cmp.Lexicographic.{pointwise}
 use Rattle.std.proofs.lemmas.Bool.{and_parts, le-leb}
@@ -7,18 +7,18 @@ use Rattle.std.proofs.lemmas.List.{take-take, drop-drop}
 use Rattle.byteorder.specs.Endian.{little_number, little_bytes}
 use Rattle.wire_core.specs.Fields.{number_at}
 use Rattle.wire_core.proofs.Prefixes.{number_at-take}
-use Rattle.board_core.specs.Flash.{range, spliced}
+use Rattle.board_core.specs.Flash.{range}
 use Rattle.board_core.proofs.OverlaidRanges.{range-range, range-spliced_apart, length-range}
 use Rattle.gpt_core.specs.declared.side.Side.{Side}
 use Rattle.gpt_core.specs.declared.side.Side.TheVariants.{Primary, Backup}
 use Rattle.gpt_core.specs.declared.entry.Entry.{Entry}
-use Rattle.gpt_core.specs.Entries.{zeros, no_entries, kind_in, unique_in, first_in, last_in, is_used, lies_within, share_none, are_apart, have_one_guid, entry_fits, pair_fits, fits_earlier, entries_fit, all_below, with_attributes, with_entry}
-use Rattle.gpt_core.specs.Format.{PartitionTable, IsValidTable, header_in, entries_in, has_size, bounds_fit, has_bounds, has_signature, has_own_crc, has_place, has_entries_place, has_counts, has_entries_crc, has_good_entries, is_good_header, are_good_entries, is_good_copy, table_from, table_of_parts, table_of_image}
+use Rattle.gpt_core.specs.Entries.{zeros, kind_in, unique_in, first_in, last_in, is_used, lies_within, share_none, are_apart, have_one_guid, entry_fits, pair_fits, fits_earlier, entries_fit, all_below, with_attributes, with_entry}
+use Rattle.gpt_core.specs.Format.{PartitionTable, IsValidTable, header_in, entries_in, has_size, bounds_fit, has_bounds, has_signature, has_own_crc, has_place, has_entries_place, has_counts, has_entries_crc, has_good_entries, is_good_header, are_good_entries, is_good_copy, table_from, table_of_image}
 use Rattle.gpt_core.specs.Room.{new_table, table_with_entry, table_with_attributes}
 use Rattle.gpt_core.proofs.AllBelow.{all_below-same, all_below-always}
 use Rattle.gpt_core.proofs.Checks.{size_fits}
 use Rattle.gpt_core.proofs.Padding.{drop-zeros}
-use Rattle.gpt_core.proofs.Units.{length-zeros, zeros_are}
+use Rattle.gpt_core.proofs.Units.{length-zeros}
 
 -- ---- a table that was found
 

@@ -1,7 +1,7 @@
 -- A copy of a partition table: a header of one sector, and 32 sectors of entries. The primary copy has its header first,
 -- the backup copy has it last.
 -- Source: the UEFI specification, section 5.3.2 ("GPT Header").
-use Rattle.std.specs.Prelude.{◌≡◌, ℕ, ◌+◌, ◌-◌, Bool, true, length, ◌&&◌, nat_eq, nat_le, if◌then◌else◌, List, ◌++◌, take, drop, replicate, codes, Option, Some, None}
+use Rattle.std.specs.Prelude.{◌≡◌, ℕ, ◌-◌, Bool, true, length, ◌&&◌, nat_eq, nat_le, if◌then◌else◌, List, ◌++◌, take, drop, replicate, codes, Option, Some, None}
 use Rattle.std.specs.Cmp.Lexicographic.{pointwise}
 use Rattle.byteorder.specs.Endian.{little_bytes}
 use Rattle.wire_core.specs.Fields.{number_at, with_number}

@@ -1,5 +1,5 @@
 -- What a header says of the table, beside its entries.
-use Rattle.std.specs.Prelude.{◌≡◌, ℕ, List, Option, Some, None}
+use Rattle.std.specs.Prelude.{ℕ, List, Option, Some, None}
 use Rattle.wire_core.specs.Fields.{number_at}
 use Rattle.board_core.specs.Flash.{range}
 use Rattle.gpt_core.specs.declared.header.Head.{Head}

@@ -1,5 +1,5 @@
 -- What a room for a table holds, and what is found in a disk.
-use Rattle.std.specs.Prelude.{◌≡◌, ◌↔◌, ◌&&◌, ℕ, ◌+◌, ◌*◌, ◌-◌, ◌≤◌, List, drop, replicate, Bool, true, false, IsTrue, Option, Some, None, Result, is_err, IfOk, OnErr}
+use Rattle.std.specs.Prelude.{◌≡◌, ◌↔◌, ℕ, ◌+◌, ◌-◌, ◌≤◌, List, drop, replicate, Bool, true, false, IsTrue, Option, Some, None, Result, is_err, IfOk, OnErr}
 use Rattle.board_core.specs.Counters.{Observed}
 use Rattle.board_core.specs.Disk.{DiskState}
 use Rattle.gpt_core.specs.declared.side.Side.{Side}
@@ -7,7 +7,7 @@ use Rattle.gpt_core.specs.declared.side.Side.TheVariants.{Primary, Backup}
 use Rattle.gpt_core.specs.declared.entry.Entry.{Entry}
 use Rattle.gpt_core.specs.declared.found.Found.{Found}
 use Rattle.gpt_core.specs.declared.found.Found.TheVariants as found
-use Rattle.gpt_core.specs.Entries.{zeros, no_entries, EntriesFit, with_entry, with_attributes}
+use Rattle.gpt_core.specs.Entries.{no_entries, EntriesFit, with_entry, with_attributes}
 use Rattle.gpt_core.specs.Format.{PartitionTable, IsValidTable, table_of_image}
 use Rattle.gpt_core.specs.Copies.{copy_of}
 use Rattle.gpt_core.specs.Tables.{IsSource}

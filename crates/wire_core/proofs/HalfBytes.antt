@@ -1,9 +1,9 @@
 -- Four zero bits at once: the register is the sum of its low four bits and the rest, and the rest only moves down.
-use Rattle.std.proofs.Common.{◌≡◌, ℕ, List, get_or, eqb, zero, suc, ◌+◌, ◌*◌, ◌/◌, ◌%◌, ◌^◌, ◌<◌, Bool, true, false, ◌==◌, if◌then◌else◌, refl, ap, sym, ◌∙◌, arith, ◌⊎◌, inl, inr}
+use Rattle.std.proofs.Common.{◌≡◌, ℕ, List, get_or, eqb, zero, suc, ◌+◌, ◌*◌, ◌/◌, ◌%◌, ◌^◌, ◌<◌, Bool, true, ◌==◌, refl, ap, sym, ◌∙◌, arith, inl, inr}
 use Rattle.std.proofs.lemmas.Bool.{agree_below, agree_below_at, eqb-true, cond-true, cond-false, eq-eqb, ne_eqb}
 use Rattle.std.proofs.lemmas.Nat.{xor_block, xor_comm, pow_pos, shr_split, and_mask}
 use Rattle.wire_core.specs.declared.reflected.TheConstants.{HALVES}
-use Rattle.std.specs.Int.Bits.{bit_and, bit_xor, xor_assoc, xor_self, xor_zero_l, xor_zero_r}
+use Rattle.std.specs.Int.Bits.{bit_and, bit_xor, xor_assoc, xor_zero_l, xor_zero_r}
 use Rattle.std.proofs.Math.Nat.{mod-lt, mod-eq_of_lt}
 use Rattle.wire_core.specs.Register.{shifted, shifts, after_byte}
 use Rattle.wire_core.proofs.ShiftRegister.{xor-lowest, xor-half, even_or_odd, double}

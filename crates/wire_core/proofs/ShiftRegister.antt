@@ -1,14 +1,14 @@
 -- CRC-32 bit by bit: a register of 32 bits that takes in one bit after the other holds what the division leaves.
-use Rattle.std.proofs.Common.{◌≡◌, ℕ, zero, suc, ◌+◌, ◌*◌, ◌/◌, ◌%◌, ◌^◌, ◌<◌, ◌≤◌, Bool, true, false, ◌==◌, if◌then◌else◌, eqb, List, [], ◌∷◌, ◌++◌, length, replicate, fold, refl, ap, sym, ◌∙◌, subst, arith, ◌⊎◌, inl, inr, append_assoc, length-append}
+use Rattle.std.proofs.Common.{◌≡◌, ℕ, zero, suc, ◌+◌, ◌*◌, ◌/◌, ◌%◌, ◌^◌, ◌<◌, ◌≤◌, Bool, true, false, ◌==◌, if◌then◌else◌, List, [], ◌∷◌, ◌++◌, length, replicate, fold, refl, ap, sym, ◌∙◌, subst, arith, ◌⊎◌, inl, inr, append_assoc, length-append}
 use Rattle.std.proofs.lemmas.List.{length-replicate}
 use Rattle.std.proofs.lemmas.Bool.{cond-true, cond-false, eq-eqb, ne_eqb}
-use Rattle.std.proofs.lemmas.Nat.{xor_comm, xor_lt, xor_shr, pow-add, mod-pow-add}
+use Rattle.std.proofs.lemmas.Nat.{xor_lt, xor_shr, pow-add, mod-pow-add}
 use Rattle.std.proofs.lemmas.Nat.Bits.{bit_at_xor, bit_at_lowest}
-use Rattle.std.specs.Int.Bits.{bit_xor, xor_assoc, xor_self, xor_zero_l, xor_zero_r}
+use Rattle.std.specs.Int.Bits.{bit_xor, xor_zero_r}
 use Rattle.wire_core.specs.Crc8.{less, remainder}
 use Rattle.wire_core.specs.Crc32.{low_bits, number_of_low_bits, low_bits_of, crc32_divisor, all_ones, crc32_of}
 use Rattle.wire_core.specs.Register.{shifted, shifts, after_byte}
-use Rattle.wire_core.proofs.Division.{AreBits, AreBits-append, AreBits-less, zeros-less}
+use Rattle.wire_core.proofs.Division.{AreBits, AreBits-append, zeros-less}
 
 -- ---- the bits of a number
 

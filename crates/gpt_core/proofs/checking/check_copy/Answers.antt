@@ -1,5 +1,4 @@
 -- A copy that passes, and one that does not.
-use Rattle.std.proofs.Common.{◌≡◌, sym, ap, ◌∙◌}
 use Rattle.gpt_core.proofs.Checks.{copy_passes, copy_fails}
 use Rattle.gpt_core.proofs.checking.check_copy.Goals as goal
 

@@ -1,5 +1,5 @@
 -- The first bytes of a copy, or those behind them.
-use Rattle.std.proofs.Common.{◌≡◌, sym, ap, ◌∙◌, arith, length-take-le}
+use Rattle.std.proofs.Common.{sym, ap, ◌∙◌, arith, length-take-le}
 use Rattle.std.proofs.lemmas.List.{take_rest}
 use Rattle.gpt_core.specs.Format as spec
 use Rattle.gpt_core.proofs.checking.entries_in.Goals as goal

@@ -1,9 +1,7 @@
 -- What both copies got is what the room's table writes.
-use Rattle.std.proofs.Common.{◌≡◌, ℕ, ◌≤◌, Option, Result, Ok, Err, IsTrue, refl, ap, sym, ◌∙◌, subst}
+use Rattle.std.proofs.Common.{◌≡◌, ℕ, ◌≤◌, Result, Ok, Err, IsTrue, ap, sym, ◌∙◌, subst}
 use Rattle.board_core.specs.declared.device.Failed.{Failed}
-use Rattle.gpt_core.specs.Copies.{Content}
-use Rattle.gpt_core.specs.declared.side.Side.TheVariants.{Primary, Backup}
-use Rattle.gpt_core.specs.Format.{PartitionTable, IsValidTable, content_of, header_sector}
+use Rattle.gpt_core.specs.Format.{PartitionTable, IsValidTable}
 use Rattle.gpt_core.specs.Tables.{IsSource}
 use Rattle.gpt_core.specs.Commits.{Commits}
 use Rattle.gpt_core.specs.Room.{RoomView}

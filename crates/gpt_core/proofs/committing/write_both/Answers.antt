@@ -5,7 +5,6 @@ use Rattle.board_core.specs.Disk.{LeftDiskTorn, Flushed}
 use Rattle.board_core.specs.OrderedWrites.{with_range, records_of_both}
 use Rattle.board_core.proofs.Stops.{made_then}
 use Rattle.gpt_core.specs.Copies.{Content, entries_lba, header_lba, with_copy, committed}
-use Rattle.gpt_core.specs.Format.{PartitionTable, table_of_image}
 use Rattle.board_core.proofs.WriteRecords.{made_within}
 use Rattle.gpt_core.proofs.CopyPlaces.{FitsContent, length-with_copy}
 use Rattle.gpt_core.proofs.CommitSteps.{CommitLeft, side_written, side_torn, left_first, left_second, left_none, bytes_both, order_first, order_second, both_made, table_first, table_second}

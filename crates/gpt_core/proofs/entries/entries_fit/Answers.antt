@@ -1,5 +1,5 @@
 -- Both tests hold, or the first that fails decides.
-use Rattle.std.proofs.Common.{◌≡◌, Bool, true, false, ◌&&◌, sym, ap, ◌∙◌, rules}
+use Rattle.std.proofs.Common.{◌≡◌, Bool, true, false, ◌&&◌, sym, ap, ◌∙◌}
 use Rattle.gpt_core.specs.Entries.{entries_fit, all_below, entry_fits, fits_earlier}
 use Rattle.gpt_core.proofs.entries.entries_fit.Goals as goal
 

@@ -1,5 +1,5 @@
 -- Each entry so far fits, or one does not.
-use Rattle.std.proofs.Common.{◌≡◌, ℕ, ◌<◌, true, false, sym, subst, ◌∙◌, arith, rules}
+use Rattle.std.proofs.Common.{◌≡◌, ℕ, true, false, sym, subst, ◌∙◌, arith}
 use Rattle.gpt_core.specs.Entries.{all_below, pair_fits}
 use Rattle.gpt_core.proofs.AllBelow.{all_below-none, all_below-more, all_below-false}
 use Rattle.gpt_core.proofs.entries.is_apart_from_earlier.Goals as goal

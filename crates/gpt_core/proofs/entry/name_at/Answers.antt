@@ -1,6 +1,5 @@
 -- All units are read.
-use Rattle.std.proofs.Common.{◌≡◌, ◌+◌, ◌-◌, ℕ, List, length, take, drop, ap, ◌∙◌, arith, rules}
-use Rattle.byteorder.specs.Endian.{little_number, IsRead}
+use Rattle.std.proofs.Common.{◌≡◌, ◌+◌, ◌-◌, length, take, drop, ap, ◌∙◌, arith, rules}
 use Rattle.gpt_core.specs.Entries.{units_in}
 use Rattle.gpt_core.proofs.Units.{units_read}
 use Rattle.gpt_core.proofs.entry.name_at.Goals as goal

@@ -1,7 +1,7 @@
 -- What was taken is what the copy says.
-use Rattle.std.proofs.Common.{◌≡◌, List, ℕ, Some, ap, sym, ◌∙◌, arith}
+use Rattle.std.proofs.Common.{◌≡◌, List, ℕ, Some, ap, sym, ◌∙◌}
 use Rattle.gpt_core.specs.Heads.{table_with}
-use Rattle.gpt_core.specs.Format.{PartitionTable, table_of_image}
+use Rattle.gpt_core.specs.Format.{table_of_image}
 use Rattle.gpt_core.proofs.Validity.{image_valid}
 use Rattle.gpt_core.proofs.finding.take_copy.Goals as goal
 

@@ -1,5 +1,5 @@
 -- The header with the CRC of the one with none, and zeros behind it.
-use Rattle.std.proofs.Common.{◌≡◌, ℕ, List, ◌++◌, ◌-◌, length, replicate, ap, sym, ◌∙◌, arith}
+use Rattle.std.proofs.Common.{◌≡◌, ℕ, List, ◌++◌, ◌-◌, length, replicate, ap, ◌∙◌, arith}
 use Rattle.wire_core.specs.Crc32.{crc32_of}
 use Rattle.gpt_core.specs.Format.{header_with, header_rest, header_sector}
 use Rattle.gpt_core.specs.Heads.{table_with}

@@ -1,5 +1,5 @@
 -- A disk of too few sectors or of too many is not read, and has no table.
-use Rattle.std.proofs.Common.{◌≡◌, ℕ, ◌<◌, ◌⊎◌, inl, inr, false, refl, arith, rules}
+use Rattle.std.proofs.Common.{◌<◌, ◌⊎◌, inl, inr, false, arith, rules}
 use Rattle.board_core.specs.Counters.{Observed}
 use Rattle.board_core.proofs.FuseDiskLemmas.{settled_writes}
 use Rattle.gpt_core.proofs.ReadTables.{reads_none}

@@ -1,5 +1,5 @@
 -- The new table can stand on the disk.
-use Rattle.std.proofs.Common.{◌≡◌, ℕ, ◌-◌, List, length, ap, sym, ◌∙◌, subst, arith}
+use Rattle.std.proofs.Common.{◌-◌, length, ap, sym, ◌∙◌, subst, arith}
 use Rattle.gpt_core.specs.Format.{PartitionTable, IsValidTable}
 use Rattle.gpt_core.proofs.Validity.{attributes_valid}
 use Rattle.gpt_core.proofs.room.GptRoom.set_attributes.Goals as goal

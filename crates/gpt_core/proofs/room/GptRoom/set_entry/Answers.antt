@@ -1,5 +1,5 @@
 -- The new table can stand on the disk.
-use Rattle.std.proofs.Common.{◌≡◌, ℕ, ◌-◌, length, ap, sym, ◌∙◌, subst}
+use Rattle.std.proofs.Common.{◌-◌, length, ap, sym, ◌∙◌, subst}
 use Rattle.gpt_core.specs.Format.{PartitionTable, IsValidTable}
 use Rattle.gpt_core.specs.Entries.{EntriesFit, with_entry}
 use Rattle.gpt_core.specs.Room.{RoomView}

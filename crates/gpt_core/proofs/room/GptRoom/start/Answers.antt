@@ -1,5 +1,5 @@
 -- The new table can stand on the disk.
-use Rattle.std.proofs.Common.{◌≡◌, sym, subst, arith}
+use Rattle.std.proofs.Common.{sym, subst, arith}
 use Rattle.gpt_core.specs.Format.{IsValidTable}
 use Rattle.gpt_core.proofs.Validity.{new_valid}
 use Rattle.gpt_core.proofs.room.GptRoom.start.Goals as goal

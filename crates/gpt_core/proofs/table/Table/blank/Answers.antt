@@ -1,5 +1,5 @@
 -- All entries are 0.
-use Rattle.std.proofs.Common.{◌≡◌, ℕ, List, length, ap, ◌∙◌}
+use Rattle.std.proofs.Common.{◌≡◌, length, ap, ◌∙◌}
 use Rattle.std.proofs.lemmas.List.{with_items_is}
 use Rattle.gpt_core.specs.Entries.{zeros}
 use Rattle.gpt_core.specs.Heads.{table_with}

@@ -1,6 +1,5 @@
 -- All entries are 0.
-use Rattle.std.proofs.Common.{◌≡◌, ℕ, List, length, ap, ◌∙◌, rules}
-use Rattle.gpt_core.specs.Entries.{zeros}
+use Rattle.std.proofs.Common.{ℕ, List, length, ap, ◌∙◌}
 use Rattle.gpt_core.specs.Room.{empty_table}
 use Rattle.gpt_core.proofs.Units.{length-zeros}
 use Rattle.gpt_core.proofs.table.Table.reserve.Goals as goal

@@ -1,17 +1,16 @@
 -- Ranges beside the pages of nvdata.
-use Rattle.std.proofs.Common.{◌≡◌, ◌⊎◌, inl, inr, ℕ, ◌+◌, ◌*◌, ◌%◌, ◌≤◌, Bool, cond, List, Option, Some, refl, ap, ◌∙◌, arith}
+use Rattle.std.proofs.Common.{◌≡◌, inl, inr, ℕ, ◌+◌, ◌*◌, ◌%◌, ◌≤◌, Bool, cond, List, Option, Some, refl, ap, ◌∙◌, arith}
 use Rattle.std.specs.Prelude.{not, ◌&&◌, ◌||◌, ◌==◌, nat_lt, nat_le}
 use Rattle.wire_core.specs.FirstFault.{first_fault}
 use Rattle.board_core.specs.Flash.{range}
-use Rattle.rom_core.specs.declared.map.Map.{Map}
 use Rattle.rom_core.specs.declared.fault.MapFault.{MapFault}
 use Rattle.rom_core.specs.declared.fault.MapFault.TheVariants as faults
 use Rattle.rom_core.specs.Map.{count_of, head_at, is_map_at, is_map_head, rows_in, StandingMap, MapQuestion, standing_map, areas_in, map_lines, area_lines}
-use Rattle.rom_core.specs.MapFits.{AreApart, IsApart}
+use Rattle.rom_core.specs.MapFits.{AreApart}
 use Rattle.rom_core.specs.Decoded.{map_from, flash_map}
 use Rattle.nvstore_core.specs.Saving.{SameBut}
 use Rattle.nvstore_core.proofs.Frames.{range_before, range_behind}
-use Rattle.boot_core.specs.Beside.{asked, SameBeside, StaysBeside}
+use Rattle.boot_core.specs.Beside.{asked, StaysBeside}
 
 -- a range that lies apart from the bytes that changed
 range_beside : (from count at size : ℕ) (old new : List ℕ) → AreApart from count at size → SameBut from count old new → range new at size ≡ range old at size

@@ -1,6 +1,6 @@
 -- How parts of a boot follow one another.
-use Rattle.std.proofs.Common.{◌≡◌, ◌⊎◌, ℕ, ◌+◌, ◌-◌, ◌*◌, ◌<◌, ◌≤◌, List, [], ◌∷◌, ◌++◌, length, take, drop, Bool, true, false, Option, Some, None, Result, Ok, Err, refl, sym, ap, subst, ◌∙◌, arith, inl, inr, append_assoc, length-append}
-use Rattle.std.specs.Prelude.{fold, IsTrue, is_err, if◌then◌else◌}
+use Rattle.std.proofs.Common.{◌≡◌, ℕ, ◌+◌, ◌<◌, ◌≤◌, List, [], ◌∷◌, ◌++◌, length, Bool, true, false, Option, Result, Ok, Err, refl, sym, ap, subst, ◌∙◌, arith, inl, inr, append_assoc, length-append}
+use Rattle.std.specs.Prelude.{fold, IsTrue}
 use Rattle.std.proofs.lemmas.List.Sums.{fold-append}
 use Rattle.std.proofs.lemmas.List.{append-nil}
 use Rattle.board_core.specs.declared.counters.Counters.{Counters}
@@ -9,18 +9,18 @@ use Rattle.board_core.specs.declared.counters.FuseState.TheVariants.{Unarmed, Ar
 use Rattle.board_core.specs.declared.device.Device.{Device}
 use Rattle.board_core.specs.declared.device.Device.TheVariants as device
 use Rattle.board_core.specs.declared.device.Fault.{Fault}
-use Rattle.board_core.specs.Counters.{Moved, MadeChanges, MadeStep, CountsFaults, Rose, raised}
+use Rattle.board_core.specs.Counters.{Moved, MadeStep, CountsFaults, raised}
 use Rattle.board_core.specs.Flash.{FlashMedium}
 use Rattle.board_core.specs.Disk.{DiskMedium}
 use Rattle.board_core.specs.Tpm.{Spaces}
-use Rattle.board_core.specs.Fault.{same_device, is_fault_of}
 use Rattle.board_core.specs.World.{World}
-use Rattle.board_core.proofs.Stops.{made_none, step_then, step_whole, step_cut, step_alive, rose_later}
+use Rattle.board_core.proofs.Stops.{step_then, step_cut, step_alive, rose_later}
 use Rattle.nvstore_core.specs.declared.state.NvState.{NvState}
 use Rattle.nvstore_core.specs.Pages.{record_in}
-use Rattle.boot_core.specs.Table.{PartitionTable, table_in}
-use Rattle.boot_core.specs.Changes.{Change, Firmware, Record, Table, Kernel, flash_with, spaces_with, disk_with, record_with, table_with, device_of, counters_on, state_with, calls_of, calls_on}
-use Rattle.boot_core.specs.Carries.{Targets, CountsBoard, Frame, MadeFlash, MadeDisk, IsMade, Fails, EndsBetween, EndsIn, EndsAt, CarriesOut}
+use Rattle.gpt_core.specs.Format.{PartitionTable}
+use Rattle.gpt_core.specs.Tables.{table_in}
+use Rattle.boot_core.specs.Changes.{Change, Firmware, Record, Table, Kernel, flash_with, spaces_with, disk_with, record_with, table_with, device_of, counters_on, state_with, calls_on}
+use Rattle.boot_core.specs.Carries.{Targets, CountsBoard, Frame, MadeFlash, MadeDisk, IsMade, EndsIn, EndsAt, CarriesOut}
 use Rattle.boot_core.proofs.Frames.{frame_then}
 
 -- ---- changes after others

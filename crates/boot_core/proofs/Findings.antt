@@ -1,14 +1,10 @@
 -- What reading a board finds, call by call.
-use Rattle.std.proofs.Common.{◌≡◌, ℕ, ◌+◌, ◌≤◌, Bool, true, false, List, Option, Some, None, Result, Ok, Err, refl, sym, ap, subst, ◌∙◌, arith}
-use Rattle.std.specs.Prelude.{IsTrue, is_err, IfOk, IfErr, OnOk}
+use Rattle.std.proofs.Common.{◌≡◌, ℕ, false, List, Option, Some, None, Result, Ok, Err, refl, sym, ap, subst, ◌∙◌, arith}
+use Rattle.std.specs.Prelude.{IsTrue, IfOk, IfErr, OnOk}
 use Rattle.std.specs.Option.{option_map_or}
 use Rattle.wire_core.specs.FirstFault.{first_fault}
 use Rattle.record_core.specs.declared.space.SpaceFault.{SpaceFault}
 use Rattle.record_core.specs.Space.{firmware_fault, kernel_fault, good_bytes}
-use Rattle.board_core.specs.declared.device.Failed.{Failed}
-use Rattle.board_core.specs.declared.device.Device.TheVariants as device
-use Rattle.board_core.specs.declared.device.Fault.{Fault}
-use Rattle.board_core.specs.Fault.{is_fault_of}
 use Rattle.board_core.specs.Flash.{FlashMedium, FlashState}
 use Rattle.board_core.specs.Tpm.{TpmState, Spaces, StartsUp}
 use Rattle.board_core.specs.World.{World}
@@ -27,7 +23,7 @@ use Rattle.nvstore_core.specs.Pages.{state_in, IsStateOf}
 use Rattle.nvstore_core.specs.Saving.{Loads}
 use Rattle.boot_core.specs.declared.found.Found.{Found}
 use Rattle.boot_core.specs.Plan.{found_in, found_by, found_of}
-use Rattle.boot_core.specs.Steps.{Looks, IsAreaIn, IsFound, ReadsSpaces, ReadsFound, ReadsBoard}
+use Rattle.boot_core.specs.Steps.{IsAreaIn, IsFound, ReadsSpaces, ReadsFound, ReadsBoard}
 
 -- ---- tables as one answer
 

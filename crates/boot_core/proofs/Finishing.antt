@@ -1,19 +1,17 @@
 -- The changes of a plan, and the locks after them.
-use Rattle.std.proofs.Common.{◌≡◌, ℕ, List, [], length, Result, Ok, Err, refl, sym, ap, subst, ◌∙◌}
+use Rattle.std.proofs.Common.{◌≡◌, ℕ, [], length, Ok, Err, refl, sym, subst}
 use Rattle.std.specs.Prelude.{fold, IsTrue}
 use Rattle.board_core.specs.declared.device.Fault.{Fault}
 use Rattle.board_core.specs.Flash.{FlashMedium}
-use Rattle.board_core.specs.Tpm.{unlocked}
 use Rattle.board_core.specs.World.{World}
-use Rattle.nvstore_core.specs.declared.state.NvState.{NvState}
 use Rattle.nvstore_core.specs.Saving.{KeepsWritten}
 use Rattle.boot_core.specs.declared.found.Found.{Found}
 use Rattle.boot_core.specs.declared.outcome.Outcome.{Outcome}
 use Rattle.boot_core.specs.declared.plan.Plan.{Plan}
-use Rattle.boot_core.specs.Changes.{Change, state_with}
-use Rattle.boot_core.specs.Carries.{IsSettled, CarriesOut}
+use Rattle.boot_core.specs.Changes.{state_with}
+use Rattle.boot_core.specs.Carries.{CarriesOut}
 use Rattle.boot_core.specs.Plan.{changes_of, targets_at}
-use Rattle.boot_core.specs.Steps.{Looks, Makes, LocksAt, Finishes}
+use Rattle.boot_core.specs.Steps.{Makes, LocksAt, Finishes}
 use Rattle.boot_core.proofs.Carried.{carried_err, carried_as, carried_last}
 use Rattle.boot_core.proofs.Making.{looks_carry, still_settled}
 

@@ -9,7 +9,7 @@ use Rattle.board_core.specs.Disk.{DiskMedium}
 use Rattle.board_core.specs.World.{World}
 use Rattle.board_core.proofs.TornRange.{grown_same}
 use Rattle.nvstore_core.specs.Saving.{SameBut}
-use Rattle.boot_core.specs.Table.{KeepsOutside}
+use Rattle.gpt_core.specs.Commits.{SameButCopies}
 use Rattle.boot_core.specs.Carries.{FrameFlash, FrameDisk, FrameStick, Frame}
 
 -- ---- logs that grow
@@ -38,8 +38,8 @@ same_but_then at count a b c h k = record { before = k.before ∙ h.before; behi
 pub same_but_of : (at count : ℕ) (a b : List ℕ) → b ≡ a → SameBut at count a b
 same_but_of at count a b same = record { before = ap (take at) same; behind = ap (drop (at + count)) same }
 
-keeps_then : (sectors : ℕ) (a b c : List ℕ) → KeepsOutside sectors a b → KeepsOutside sectors b c → KeepsOutside sectors a c
-keeps_then sectors a b c h k = record { before = k.before ∙ h.before; between = k.between ∙ h.between }
+keeps_then : (sectors : ℕ) (a b c : List ℕ) → SameButCopies sectors a b → SameButCopies sectors b c → SameButCopies sectors a c
+keeps_then sectors a b c h k = record { size = k.size ∙ h.size; before = k.before ∙ h.before; between = k.between ∙ h.between }
 
 frame_flash_then : (area : ℕ) (a b c : FlashMedium) → FrameFlash area a b → FrameFlash area b c → FrameFlash area a c
 frame_flash_then area a b c h k = record {
@@ -54,7 +54,7 @@ frame_disk_then a b c h k = record {
   sectors = k.sectors ∙ h.sectors;
   told = k.told ∙ h.told;
   none_pending = k.none_pending;
-  bytes = λ told. keeps_then a.sectors a.bytes b.bytes c.bytes (h.bytes told) (subst (λ (n : ℕ). KeepsOutside n b.bytes c.bytes) h.sectors (k.bytes (subst IsTrue (sym h.told) told)));
+  bytes = λ told. keeps_then a.sectors a.bytes b.bytes c.bytes (h.bytes told) (subst (λ (n : ℕ). SameButCopies n b.bytes c.bytes) h.sectors (k.bytes (subst IsTrue (sym h.told) told)));
   torn = λ told. grown_then a.torn b.torn c.torn (h.torn told) (k.torn (subst IsTrue (sym h.told) told));
 }
 
@@ -93,7 +93,7 @@ frame_disk_of a b settled same = record {
   sectors = ap (λ (m : DiskMedium). m.sectors) same;
   told = ap (λ (m : DiskMedium). m.told) same;
   none_pending = ap (λ (m : DiskMedium). m.pending) same ∙ settled;
-  bytes = λ told. subst (λ (m : DiskMedium). KeepsOutside a.sectors a.bytes m.bytes) (sym same) (record { before = refl; between = refl });
+  bytes = λ told. subst (λ (m : DiskMedium). SameButCopies a.sectors a.bytes m.bytes) (sym same) (record { size = refl; before = refl; between = refl });
   torn = λ told. grown_of a.torn b.torn (ap (λ (m : DiskMedium). m.torn) same);
 }
 

@@ -1,5 +1,5 @@
 -- Each step of a boot as a part that makes its changes.
-use Rattle.std.proofs.Common.{◌≡◌, ◌⊎◌, ℕ, ◌+◌, ◌*◌, ◌<◌, ◌≤◌, List, [], ◌∷◌, ◌++◌, length, Bool, true, false, Option, Some, None, Result, Ok, Err, refl, sym, ap, subst, ◌∙◌, arith, inl, inr}
+use Rattle.std.proofs.Common.{◌≡◌, ℕ, ◌+◌, ◌*◌, ◌<◌, ◌≤◌, List, [], ◌∷◌, length, Bool, true, false, Option, Some, None, Result, Ok, Err, refl, sym, ap, subst, ◌∙◌, arith, inl, inr}
 use Rattle.std.specs.Prelude.{fold, IsTrue, is_err, IfErr, IfSome}
 use Rattle.std.proofs.lemmas.Bool.{false≢true}
 use Rattle.board_core.specs.declared.counters.Counters.{Counters}
@@ -9,25 +9,25 @@ use Rattle.board_core.specs.declared.device.Device.{Device}
 use Rattle.board_core.specs.declared.device.Device.TheVariants as device
 use Rattle.board_core.specs.declared.device.Space.TheVariants as space
 use Rattle.board_core.specs.declared.device.Fault.{Fault}
-use Rattle.board_core.specs.Counters.{Moved, MadeChanges, MadeStep, CountsFaults, Observed, Rose}
+use Rattle.board_core.specs.Counters.{Moved, MadeChanges, MadeStep, CountsFaults, Observed}
 use Rattle.board_core.specs.Torn.{Logs, Grown}
 use Rattle.board_core.specs.Fault.{same_device, is_fault_of}
 use Rattle.board_core.specs.Flash.{FlashMedium, FlashState, range}
 use Rattle.board_core.specs.Disk.{DiskMedium, DiskState}
 use Rattle.board_core.specs.Hook.{HookState}
-use Rattle.board_core.specs.Tpm.{TpmState, Spaces, WritesSpace}
+use Rattle.board_core.specs.Tpm.{TpmState, WritesSpace}
 use Rattle.board_core.specs.World.{World}
 use Rattle.board_core.proofs.Stops.{made_none, made_only_observed, step_cut, step_whole}
 use Rattle.board_core.proofs.TornRange.{grown_same}
 use Rattle.nvstore_core.specs.declared.state.NvState.{NvState}
-use Rattle.nvstore_core.specs.Pages.{record_in, state_in, IsStateOf, bytes_with_record, calls_to_save}
+use Rattle.nvstore_core.specs.Pages.{IsStateOf, bytes_with_record, calls_to_save}
 use Rattle.nvstore_core.specs.Saving.{Saves, KeepsWritten}
-use Rattle.boot_core.specs.Table.{PartitionTable}
-use Rattle.boot_core.specs.Changes.{Change, Firmware, Record, flash_with, record_with, spaces_with, device_of, counters_on, state_with, calls_on}
-use Rattle.boot_core.specs.Carries.{Targets, IsSettled, CountsBoard, FrameFlash, Frame, MadeFlash, MadeDisk, IsMade, EndsBetween, EndsIn, CarriesOut}
+use Rattle.gpt_core.specs.Format.{PartitionTable}
+use Rattle.boot_core.specs.Changes.{Change, Firmware, Record, counters_on, state_with}
+use Rattle.boot_core.specs.Carries.{Targets, IsSettled, CountsBoard, FrameFlash, Frame, MadeFlash, MadeDisk, IsMade, CarriesOut}
 use Rattle.boot_core.specs.declared.found.Found.{Found}
 use Rattle.boot_core.specs.declared.plan.Plan.{Plan}
-use Rattle.boot_core.specs.Plan.{listed, changes_of, targets_at}
+use Rattle.boot_core.specs.Plan.{listed, targets_at}
 use Rattle.boot_core.specs.Steps.{IsBoardDevice, Looks, Makes}
 use Rattle.boot_core.proofs.Carried.{carried_cut, carried_next}
 use Rattle.boot_core.proofs.Frames.{frame_flash_of, frame_disk_of, frame_stick_of}

@@ -1,5 +1,5 @@
 -- What is left after a fault, as the state after so many changes or one more.
-use Rattle.std.proofs.Common.{◌≡◌, ◌⊎◌, ℕ, ◌+◌, ◌*◌, ◌<◌, ◌≤◌, List, [], ◌∷◌, ◌++◌, length, take, drop, Bool, true, false, Option, Some, None, refl, sym, ap, subst, ◌∙◌, arith, inl, inr, append_assoc, length-append}
+use Rattle.std.proofs.Common.{◌≡◌, ℕ, ◌+◌, List, [], ◌∷◌, ◌++◌, length, take, drop, Bool, Option, refl, sym, ap, subst, ◌∙◌, arith, inl, inr, append_assoc, length-append}
 use Rattle.std.specs.Prelude.{fold, IsTrue}
 use Rattle.std.proofs.lemmas.List.Sums.{fold-append}
 use Rattle.std.proofs.lemmas.List.{take_at, drop_at, take_all, append-nil}
@@ -7,17 +7,18 @@ use Rattle.board_core.specs.declared.counters.FuseState.TheVariants.{Armed, Dead
 use Rattle.board_core.specs.declared.device.Device.{Device}
 use Rattle.board_core.specs.declared.device.Fault.{Fault}
 use Rattle.board_core.specs.Counters.{Rose}
-use Rattle.board_core.specs.Torn.{Logs, added}
+use Rattle.board_core.specs.Torn.{Logs}
 use Rattle.board_core.specs.Flash.{FlashMedium}
-use Rattle.board_core.specs.Disk.{DiskMedium, overlaid}
+use Rattle.board_core.specs.Disk.{DiskMedium}
 use Rattle.board_core.specs.Tpm.{Spaces}
 use Rattle.board_core.specs.World.{World}
 use Rattle.nvstore_core.specs.Pages.{record_in}
 use Rattle.nvstore_core.specs.Fair.{IsFairFlash}
-use Rattle.boot_core.specs.Table.{PartitionTable, table_in, IsFairDisk}
+use Rattle.gpt_core.specs.Format.{PartitionTable}
+use Rattle.gpt_core.specs.Tables.{table_in, IsFairDisk}
 use Rattle.boot_core.specs.Changes.{Change, Firmware, Record, Table, Kernel, flash_with, disk_with, spaces_with, record_with, table_with, device_of, counters_on, calls_on}
-use Rattle.boot_core.specs.Carries.{Targets, Frame, MadeFlash, MadeDisk, IsMade, Fails, EndsBetween, EndsIn, EndsAt, OldOrNew}
-use Rattle.boot_core.specs.Boots.{BootPlan, State, state_of, changed_state, state_after, spaces_after, IsTold, IsFair, MayHaveMade, LeavesPrefix, LeavesSpaces, HasNoRecord, HasNoTable, AtFault}
+use Rattle.boot_core.specs.Carries.{Targets, Frame, IsMade, Fails, EndsBetween, EndsIn, EndsAt, OldOrNew}
+use Rattle.boot_core.specs.Boots.{BootPlan, State, state_of, changed_state, IsTold, MayHaveMade, HasNoRecord, HasNoTable, AtFault}
 use Rattle.boot_core.proofs.Fairness.{fair_flash_from, fair_disk_from}
 
 -- ---- changes that leave a device alone

@@ -1,9 +1,9 @@
 -- A whole boot, by its steps.
-use Rattle.std.proofs.Common.{◌≡◌, ◌⊎◌, ℕ, zero, suc, ◌+◌, ◌≤◌, Bool, true, false, List, [], ◌∷◌, ◌++◌, length, take, Option, Some, None, Result, Ok, Err, refl, sym, ap, subst, ◌∙◌, arith, inl, inr}
-use Rattle.std.specs.Prelude.{fold, IsTrue, IsSome, IfSome, IfOk, IfErr}
+use Rattle.std.proofs.Common.{◌≡◌, ℕ, zero, suc, ◌+◌, ◌≤◌, List, [], ◌∷◌, ◌++◌, take, Option, Some, None, Result, Ok, Err, refl, sym, ap, subst, ◌∙◌, arith, inl, inr}
+use Rattle.std.specs.Prelude.{fold, IsTrue, IsSome, IfSome, IfErr}
 use Rattle.std.proofs.lemmas.Bool.{false≢true}
 use Rattle.record_core.specs.declared.space.SpaceFault.{SpaceFault}
-use Rattle.record_core.specs.Space.{firmware_fault, kernel_fault, good_bytes, stored_firmware_version, stored_kernel_version}
+use Rattle.record_core.specs.Space.{firmware_fault, good_bytes, stored_firmware_version, stored_kernel_version}
 use Rattle.board_core.specs.declared.device.Fault.{Fault}
 use Rattle.board_core.specs.declared.device.Space.TheVariants as space
 use Rattle.board_core.specs.Flash.{FlashMedium}
@@ -21,12 +21,12 @@ use Rattle.boot_core.specs.declared.outcome.Outcome.{Outcome}
 use Rattle.boot_core.specs.declared.outcome.Outcome.TheVariants as outcome
 use Rattle.boot_core.specs.declared.plan.Plan.{Plan}
 use Rattle.boot_core.specs.Changes.{Change, Firmware, Record, Table, Kernel, spaces_with}
-use Rattle.boot_core.specs.Carries.{IsSettled, IsMade, CarriesOut}
+use Rattle.boot_core.specs.Carries.{IsSettled, CarriesOut}
 use Rattle.boot_core.specs.Plan.{KeepsVersion, listed, changes_of, found_by, found_of, plan_of, targets_at}
-use Rattle.boot_core.specs.Steps.{Looks, ReadsBoard, Finishes, locks_at}
+use Rattle.boot_core.specs.Steps.{ReadsBoard, Finishes}
 use Rattle.boot_core.specs.Boots.{BootPlan, boot_plan_of, bad_flash_plan, boot_plan_by, boot_plan, HasNoTable, AtFault, IsNoLower, NeverFall, Boots}
 use Rattle.boot_core.proofs.Carried.{carried_then, carried_as, carried_err, carried_cut}
-use Rattle.boot_core.proofs.Making.{looks_carry, looks_frame, keeps_same}
+use Rattle.boot_core.proofs.Making.{looks_carry, keeps_same}
 use Rattle.boot_core.proofs.Findings.{found_same}
 use Rattle.boot_core.proofs.Prefix.{at_fault}
 

@@ -1,8 +1,7 @@
 -- What a boot does to its board.
-use Rattle.std.specs.Prelude.{◌≡◌, ◌⊎◌, ℕ, ◌+◌, ◌<◌, ◌≤◌, List, [], ◌∷◌, length, take, drop, fold, Bool, IsTrue, IsSome, Option, Some, None, Result, Ok, Err, IfOk, OnOk, IfErr}
+use Rattle.std.specs.Prelude.{◌≡◌, ◌⊎◌, ℕ, ◌+◌, ◌<◌, ◌≤◌, List, [], ◌∷◌, length, take, drop, fold, IsTrue, IsSome, Option, Some, None, Result, Ok, Err, IfOk, OnOk, IfErr}
 use Rattle.record_core.specs.Space.{firmware_fault, kernel_fault, stored_firmware_version, stored_kernel_version}
 use Rattle.board_core.specs.declared.counters.FuseState.TheVariants.{Armed, Dead}
-use Rattle.board_core.specs.declared.device.Device.{Device}
 use Rattle.board_core.specs.declared.device.Fault.{Fault}
 use Rattle.board_core.specs.Counters.{Rose}
 use Rattle.board_core.specs.Tpm.{Spaces}
@@ -17,8 +16,9 @@ use Rattle.boot_core.specs.declared.found.Found.{Found}
 use Rattle.boot_core.specs.declared.outcome.Outcome.{Outcome}
 use Rattle.boot_core.specs.declared.outcome.Outcome.TheVariants as outcome
 use Rattle.boot_core.specs.declared.plan.Plan.{Plan}
-use Rattle.boot_core.specs.Table.{PartitionTable, table_in, IsFairDisk}
-use Rattle.boot_core.specs.Changes.{Change, Firmware, Record, Table, Kernel, spaces_with, record_with, table_with, device_of, counters_on, calls_on}
+use Rattle.gpt_core.specs.Format.{PartitionTable}
+use Rattle.gpt_core.specs.Tables.{table_in, IsFairDisk}
+use Rattle.boot_core.specs.Changes.{Change, Record, Table, spaces_with, record_with, table_with, device_of, counters_on, calls_on}
 use Rattle.boot_core.specs.Carries.{Targets, CountsBoard, Frame, IsMade}
 use Rattle.boot_core.specs.Plan.{found_of, plan_of, changes_of, targets_at}
 use Rattle.boot_core.specs.Steps.{locks_at}

@@ -1,5 +1,5 @@
 -- Parts of a boot: reads and checks, and changes that are made one after another, up to the first call that fails.
-use Rattle.std.specs.Prelude.{◌≡◌, ◌⊎◌, ℕ, ◌+◌, ◌<◌, ◌≤◌, List, [], ◌∷◌, ◌++◌, length, fold, Bool, IsTrue, Option, Some, Result, is_err, OnOk, IfErr}
+use Rattle.std.specs.Prelude.{◌≡◌, ◌⊎◌, ℕ, ◌+◌, ◌<◌, ◌≤◌, List, [], ◌∷◌, ◌++◌, length, fold, IsTrue, Result, is_err, OnOk, IfErr}
 use Rattle.board_core.specs.declared.counters.FuseState.TheVariants.{Armed, Dead}
 use Rattle.board_core.specs.declared.device.Device.{Device}
 use Rattle.board_core.specs.declared.device.Device.TheVariants as device
@@ -8,14 +8,16 @@ use Rattle.board_core.specs.Counters.{MadeStep, CountsFaults, Rose}
 use Rattle.board_core.specs.Torn.{Grown}
 use Rattle.board_core.specs.Fault.{is_fault_of}
 use Rattle.board_core.specs.Flash.{FlashMedium}
-use Rattle.board_core.specs.Disk.{DiskMedium, DiskState}
+use Rattle.board_core.specs.Disk.{DiskMedium}
 use Rattle.board_core.specs.World.{World}
 use Rattle.nvstore_core.specs.declared.state.NvState.{NvState}
 use Rattle.nvstore_core.specs.Pages.{record_in}
 use Rattle.nvstore_core.specs.Saving.{SameButPages}
 use Rattle.nvstore_core.specs.Fair.{FailsToStore}
-use Rattle.boot_core.specs.Table.{PartitionTable, table_in, IsFairDisk, KeepsOutside}
-use Rattle.boot_core.specs.Changes.{Change, Firmware, Record, Table, Kernel, flash_with, record_with, spaces_with, disk_with, table_with, device_of, counters_on, calls_on}
+use Rattle.gpt_core.specs.Format.{PartitionTable}
+use Rattle.gpt_core.specs.Tables.{table_in}
+use Rattle.gpt_core.specs.Commits.{SameButCopies, FailsToCommit}
+use Rattle.boot_core.specs.Changes.{Change, Record, Table, flash_with, record_with, spaces_with, disk_with, table_with, device_of, counters_on, calls_on}
 
 -- where changes go: the place of nvdata in the flash, in bytes, and the table that is written
 pub record Targets : Type 0 where
@@ -52,7 +54,7 @@ pub record FrameDisk (old new : DiskMedium) : Type 0 where
   pub sectors : new.sectors ≡ old.sectors
   pub told : new.told ≡ old.told
   pub none_pending : new.pending ≡ 0
-  pub bytes : IsTrue old.told → KeepsOutside old.sectors old.bytes new.bytes
+  pub bytes : IsTrue old.told → SameButCopies old.sectors old.bytes new.bytes
   pub torn : IsTrue old.told → Grown old.torn new.torn
 
 -- the stick but for the number of sectors read
@@ -100,7 +102,7 @@ OldOrNew before after now = (now ≡ before) ⊎ (now ≡ after)
 
 -- a table that was not written whole: on a fair disk the old one stands or the new one
 pub record FailsToWrite (table : PartitionTable) (old new : DiskMedium) : Type 0 where
-  pub stands : IsTrue old.told → IsFairDisk table old new → OldOrNew (table_in old.sectors old.bytes) (Some table) (table_in new.sectors new.bytes)
+  pub stands : IsTrue old.told → FailsToCommit table old new
 
 -- what the change that failed leaves on its device; the others were not called
 abbrev pub Fails : Targets → Change → World → World → Type 0

@@ -1,5 +1,5 @@
 -- The changes of a boot, and what each makes of what the devices hold.
-use Rattle.std.specs.Prelude.{◌≡◌, ℕ, ◌+◌, List, [], ◌∷◌, Bool, Option, Some, None, if◌then◌else◌}
+use Rattle.std.specs.Prelude.{ℕ, ◌+◌, List, [], ◌∷◌, Option, Some, if◌then◌else◌}
 use Rattle.board_core.specs.declared.counters.Counters.{Counters}
 use Rattle.board_core.specs.declared.device.Device.{Device}
 use Rattle.board_core.specs.declared.device.Device.TheVariants as device
@@ -10,7 +10,8 @@ use Rattle.board_core.specs.Tpm.{Spaces, with_space}
 use Rattle.board_core.specs.World.{World}
 use Rattle.nvstore_core.specs.declared.state.NvState.{NvState}
 use Rattle.nvstore_core.specs.Pages.{state_in, bytes_with_record, state_with_record, calls_to_save}
-use Rattle.boot_core.specs.Table.{PartitionTable, bytes_with_table}
+use Rattle.gpt_core.specs.Format.{PartitionTable}
+use Rattle.gpt_core.specs.Commits.{bytes_with_table}
 
 -- A change of a boot: a space of the TPM has these bytes, this nvdata record is stored, or both copies of the partition table
 -- are replaced.

@@ -25,10 +25,9 @@ use Rattle.nvstore_core.specs.declared.state.NvState.{NvState}
 use Rattle.nvstore_core.specs.Pages.{state_in}
 use Rattle.boot_core.specs.declared.switches.Switches.{Switches}
 use Rattle.boot_core.specs.declared.found.Found.{Found}
-use Rattle.boot_core.specs.declared.outcome.Outcome.{Outcome}
 use Rattle.boot_core.specs.declared.outcome.Outcome.TheVariants as outcome
 use Rattle.boot_core.specs.declared.plan.Plan.{Plan}
-use Rattle.boot_core.specs.Table.{PartitionTable}
+use Rattle.gpt_core.specs.Format.{PartitionTable}
 use Rattle.boot_core.specs.Changes.{Change, Firmware, Record}
 use Rattle.boot_core.specs.Carries.{Targets}
 
@@ -138,7 +137,7 @@ changes_of plan = listed Firmware plan.firmware ++ listed Record plan.nv
 
 -- no table is written yet
 abbrev pub no_table : PartitionTable
-no_table = record { guid = []; first = 0; last = 0; entries = [] }
+no_table = record { guid = []; first_usable = 0; last_usable = 0; entries = [] }
 
 abbrev pub targets_at : ℕ → Targets
 targets_at area = record { area = area; table = no_table }

@@ -1,18 +1,16 @@
 -- The steps of a boot over its board: reading, changing and locking.
-use Rattle.std.specs.Prelude.{◌≡◌, ℕ, ◌+◌, ◌%◌, ◌≤◌, Bool, true, false, IsTrue, List, length, Result, Ok, Err, is_err, IfOk, IfErr, OnOk}
+use Rattle.std.specs.Prelude.{◌≡◌, ℕ, ◌+◌, ◌%◌, ◌≤◌, true, IsTrue, List, Result, is_err, IfOk, IfErr, OnOk}
 use Rattle.record_core.specs.declared.space.SpaceFault.{SpaceFault}
 use Rattle.record_core.specs.Space.{firmware_fault, kernel_fault, good_bytes}
 use Rattle.board_core.specs.declared.device.Device.{Device}
 use Rattle.board_core.specs.declared.device.Device.TheVariants as device
 use Rattle.board_core.specs.declared.device.Fault.{Fault}
-use Rattle.board_core.specs.Counters.{Observed, CountsFaults}
+use Rattle.board_core.specs.Counters.{Observed}
 use Rattle.board_core.specs.Fault.{is_fault_of}
 use Rattle.board_core.specs.Tpm.{TpmState, Locks, unlocked}
 use Rattle.board_core.specs.World.{World}
 use Rattle.rom_core.specs.declared.map.Map.{Map}
 use Rattle.rom_core.specs.declared.fault.MapFault.{MapFault}
-use Rattle.rom_core.specs.Reading.{map_question}
-use Rattle.rom_core.specs.Decoded.{flash_map}
 use Rattle.nvstore_core.specs.Pages.{IsStateOf, InRange}
 use Rattle.nvstore_core.specs.Saving.{KeepsWritten}
 use Rattle.boot_core.specs.declared.found.Found.{Found}

@@ -1,11 +1,13 @@
-//! Numbers and checksums as they stand in the bytes of firmware images: little-endian fields and CRC-8.
+//! Numbers and checksums as they stand in the bytes of firmware images: little-endian fields, CRC-8 and CRC-32.
 #![tactic(auto)]
 
 mod checksums;
 mod fields;
+mod reflected;
 
 pub use checksums::crc8;
 pub use fields::{put_u16, put_u32, put_u64, u16_at, u32_at, u64_at};
+pub use reflected::crc32;
 
 #[cfg(test)]
 mod tests {
@@ -26,6 +28,22 @@ mod tests {
         ];
         for (bytes, crc) in known {
             assert_eq!(rt; crc8(bytes), crc, "of {bytes:?}");
+        }
+    }
+
+    // The check value of the catalogues of checksums, no bytes, four zero bytes, what the header of a partition
+    // table begins with, and a sentence that many references give: each as Python's `zlib.crc32` gives it.
+    #[test]
+    fn crc32_of_known_bytes(rt: HostRuntime) {
+        let known: [(&[u8], u32); 5] = [
+            (b"123456789", 0xcbf4_3926),
+            (b"", 0),
+            (b"\0\0\0\0", 0x2144_df1c),
+            (b"EFI PART\0\0\x01\0\x5c\0\0\0", 0xff69_35e1),
+            (b"The quick brown fox jumps over the lazy dog", 0x414f_a339),
+        ];
+        for (bytes, crc) in known {
+            assert_eq!(rt; crc32(bytes), crc, "of {bytes:?}");
         }
     }
 

@@ -1,5 +1,5 @@
 -- A fault of the map, a fault while reading, and a plan that was carried out.
-use Rattle.std.proofs.Common.{◌≡◌, ℕ, Result, Ok, Err, subst}
+use Rattle.std.proofs.Common.{Result, Ok, subst}
 use Rattle.board_core.specs.World.{World, world}
 use Rattle.rom_core.specs.declared.fault.MapFault.{MapFault}
 use Rattle.boot_core.specs.declared.found.Found.{Found}

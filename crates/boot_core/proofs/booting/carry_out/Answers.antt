@@ -1,5 +1,5 @@
 -- A fault in the changes, one in the locks, and none.
-use Rattle.std.proofs.Common.{◌≡◌, ℕ, Result, Ok, Err, rules, sym, subst}
+use Rattle.std.proofs.Common.{◌≡◌, Err, rules, sym, subst}
 use Rattle.board_core.specs.World.{World, world}
 use Rattle.boot_core.specs.Steps.{Finishes}
 use Rattle.boot_core.proofs.Finishing.{finishes_cut, finishes_unlocked, finishes_whole}

@@ -1,6 +1,5 @@
 -- A fault in the first change, and what comes after it.
-use Rattle.std.proofs.Common.{◌≡◌, ℕ, Result, Ok, Err, rules, refl, sym, subst}
-use Rattle.board_core.specs.declared.device.Fault.{Fault}
+use Rattle.std.proofs.Common.{◌≡◌, ℕ, Ok, Err, rules, sym, subst}
 use Rattle.board_core.specs.World.{World, world}
 use Rattle.boot_core.specs.Changes.{Firmware}
 use Rattle.boot_core.specs.Plan.{listed, targets_at}

@@ -1,10 +1,9 @@
 -- Each exit: no change, a failed one, and one that was made.
-use Rattle.std.proofs.Common.{◌≡◌, ℕ, ◌+◌, List, [], ◌∷◌, Option, Some, None, Result, Ok, Err, refl, sym, ap, subst, ◌∙◌}
+use Rattle.std.proofs.Common.{ℕ, ◌+◌, List, Option, Ok, Err, sym, subst}
 use Rattle.board_core.specs.declared.device.Failed.{Failed}
-use Rattle.board_core.specs.declared.device.Fault.{Fault}
 use Rattle.board_core.specs.World.{World, world}
 use Rattle.nvstore_core.specs.declared.state.NvState.{NvState}
-use Rattle.boot_core.specs.Changes.{Change, Record}
+use Rattle.boot_core.specs.Changes.{Record}
 use Rattle.boot_core.specs.Plan.{listed, no_table, targets_at}
 use Rattle.boot_core.specs.Carries.{CarriesOut}
 use Rattle.boot_core.proofs.Making.{none_carried, record_made, record_failed, flash_fault}

@@ -1,12 +1,11 @@
 -- Each exit: no change, a failed one, and one that was made.
-use Rattle.std.proofs.Common.{◌≡◌, ℕ, List, [], ◌∷◌, Option, Some, None, Result, Ok, Err, refl, sym, ap, subst, ◌∙◌}
+use Rattle.std.proofs.Common.{ℕ, List, Option, Ok, Err, sym, subst}
 use Rattle.board_core.specs.declared.device.Failed.{Failed}
-use Rattle.board_core.specs.declared.device.Fault.{Fault}
 use Rattle.board_core.specs.declared.device.Space.TheVariants as space
-use Rattle.board_core.specs.Tpm.{TpmState, WritesSpace}
+use Rattle.board_core.specs.Tpm.{WritesSpace}
 use Rattle.board_core.specs.World.{World, world}
 use Rattle.nvstore_core.specs.declared.state.NvState.{NvState}
-use Rattle.boot_core.specs.Changes.{Change, Firmware}
+use Rattle.boot_core.specs.Changes.{Firmware}
 use Rattle.boot_core.specs.Plan.{listed}
 use Rattle.boot_core.specs.Carries.{Targets, CarriesOut}
 use Rattle.boot_core.proofs.Making.{none_carried, firmware_made, firmware_failed, tpm_fault}

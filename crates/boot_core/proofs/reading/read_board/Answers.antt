@@ -1,5 +1,5 @@
 -- All was read, or the map has a fault.
-use Rattle.std.proofs.Common.{◌≡◌, ℕ, Result, Ok, Err, subst}
+use Rattle.std.proofs.Common.{Result, Ok, Err, subst}
 use Rattle.board_core.specs.declared.device.Failed.{Failed}
 use Rattle.board_core.specs.World.{World, world}
 use Rattle.rom_core.specs.declared.map.Map.{Map}

@@ -1,5 +1,4 @@
 -- All three were read.
-use Rattle.std.proofs.Common.{◌≡◌, ℕ, Result, Ok, Err}
 use Rattle.board_core.specs.declared.device.Failed.{Failed}
 use Rattle.board_core.specs.World.{World, world}
 use Rattle.boot_core.proofs.Findings.{reads_found}

@@ -1,0 +1,36 @@
+//! The GUID partition table of a disk in two copies: it is read from the good one, and both are replaced so that any stop
+//! leaves the old table or the new one.
+//!
+//! - `side` names the two copies and their places, and `layout` the places of the fields in them.
+//! - `entry` is one entry as its fields, and `entries` whether all of them fit the disk and each other.
+//! - `header` reads and makes a header, `bytes` puts one together, and `checking` tells whether a copy is good.
+//! - `table` is a table in memory, and `room` what a caller holds of a disk: `finding` takes the table of two copies, and
+//!   `found` says which.
+//! - `reading` reads both copies of a disk. `writing` writes one copy, and `committing` both, the source last.
+#![tactic(auto)]
+
+mod bytes;
+mod checking;
+mod committing;
+mod entries;
+mod entry;
+mod finding;
+mod found;
+mod header;
+mod layout;
+mod reading;
+mod room;
+mod side;
+mod table;
+#[cfg(test)]
+mod test_disks;
+#[cfg(test)]
+mod tests;
+mod writing;
+
+pub use committing::commit;
+pub use entry::Entry;
+pub use found::Found;
+pub use reading::read_table;
+pub use room::GptRoom;
+pub use side::Side;

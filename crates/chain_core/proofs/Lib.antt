@@ -1,3 +1,9 @@
--- What is asked of a hook, as the row that it looks for.
+-- What is asked of a hook, and the tables of keyblocks and preambles.
 pub mod Rows
 pub mod Asking
+pub mod Said
+pub mod Lifted
+pub mod Keys
+pub mod Checking
+pub mod KeyblockAnswers
+pub mod PreambleAnswers

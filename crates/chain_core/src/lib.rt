@@ -6,7 +6,9 @@ mod fault;
 mod hasher;
 mod key_bytes;
 mod keyblock;
+mod preamble;
 
 pub use fault::{BodyFault, Failure};
 pub use hasher::{Hasher, is_signed};
 pub use keyblock::{LARGEST_VERSION, verify_keyblock};
+pub use preamble::{combined_version, verify_preamble};

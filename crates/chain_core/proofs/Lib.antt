@@ -7,3 +7,4 @@ pub mod Keys
 pub mod Checking
 pub mod KeyblockAnswers
 pub mod PreambleAnswers
+pub mod BodyAnswers

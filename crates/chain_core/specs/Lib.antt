@@ -3,3 +3,4 @@ pub mod Hashing
 pub mod Accepted
 pub mod Tables
 pub mod Checking
+pub mod Bodies

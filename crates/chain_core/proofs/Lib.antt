@@ -8,3 +8,5 @@ pub mod Checking
 pub mod KeyblockAnswers
 pub mod PreambleAnswers
 pub mod BodyAnswers
+pub mod Slots
+pub mod SlotAnswers

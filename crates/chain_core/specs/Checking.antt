@@ -34,7 +34,9 @@ pub record ChecksKeyblock {E : Type 0} (bytes : List ℕ) (signer : PackedKey) (
   pub fits : IfOk result (λ answer. IfOk answer (KeyblockFits seals.Signature bytes))
   -- all of it but the seal is read from what is signed
   pub signed : IfOk result (λ answer. IfOk answer KeyblockIsSigned)
-  -- and its data key can be used
+  -- the signer's copy holds all bytes of the key
+  pub copy : IfOk result (λ answer. OnOk answer (length (key_of signer).bytes ≡ signer.size))
+  -- and the data key can be used
   pub key : IfOk result (λ answer. IfOk answer (λ keyblock. first_fault data_key_lines (view_question keyblock.data_key stored rollback) ≡ None))
 
 -- what is asked of the preamble that these bytes begin, of a hook

@@ -4,3 +4,6 @@ pub mod Accepted
 pub mod Tables
 pub mod Checking
 pub mod Bodies
+pub mod Slot
+pub mod SlotNumbers
+pub mod Room

@@ -1,5 +1,5 @@
 // Hashing a message by the hash of an algorithm, in pieces, and asking a hook for its signature.
-ghost use Rattle.std.specs.Prelude.{◌≡◌, ℕ, ◌≤◌, ◌++◌, List, []};
+ghost use Rattle.std.specs.Prelude.{◌≡◌, ℕ, ◌≤◌, ◌++◌, List, [], length};
 ghost use Rattle.chain_core.specs.Hashing.{HoldsMessage};
 ghost use Rattle.chain_core.specs.Accepted.{key_of, AsksFor};
 
@@ -43,6 +43,7 @@ impl Hasher {
     pub fn verify<H: Hook>(self, hook: &mut H, key: &PackedKey, signature: &[u8]) -> Result<bool, Failed>
         requires { key.now.size ≤ LARGEST_KEY }
         ensures meets { (message : List ℕ) → HoldsMessage key.now.algorithm self message → AsksFor (key_of key.now) message signature.now (H.state hook.old) (H.state hook.new) result }
+        ensures key { length (key_of key.now).bytes ≡ key.now.size }
     {
         let bytes = key_bytes(key);
         match self {
@@ -59,6 +60,7 @@ impl Hasher {
 pub fn is_signed<H: Hook>(hook: &mut H, key: &PackedKey, message: &[u8], signature: &[u8]) -> Result<bool, Failed>
     requires { key.now.size ≤ LARGEST_KEY }
     ensures meets { AsksFor (key_of key.now) message.now signature.now (H.state hook.old) (H.state hook.new) result }
+    ensures key { length (key_of key.now).bytes ≡ key.now.size }
 {
     let mut hasher = Hasher::new(key.algorithm);
     hasher.update(message);

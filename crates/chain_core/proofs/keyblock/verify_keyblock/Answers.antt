@@ -82,4 +82,4 @@ returns g c =
     let key = ap (λ (key : Key). first_fault data_key_lines (view_question key c.args.stored c.args.rollback)) (sym c.data_key.ensures) ∙ sym c.data_key_fault.ensures ∙ c.in_default-data_key_fault.is in
     record { meets = keyblock_good _ _ _ _ old new keyblock said.asked (λ told.
         sealed q keyblock c.in_ok-is_signed.field-0 viewed (sym c.signer_fault.ensures ∙ c.in_default.is) (long _ _ c.seal_bytes.ensures ∙ c.if-seal_bytes-signature_length.false ∙ c.signature_length.ensures) (said.says told) c.if-not-branch.false
-        ∙ data_key_none q keyblock viewed key) c.in-Ok.ensures.parts c.in-Ok.ensures.fits c.in-Ok.ensures.signed key }
+        ∙ data_key_none q keyblock viewed key) c.in-Ok.ensures.parts c.in-Ok.ensures.fits c.in-Ok.ensures.signed c.is_signed.ensures.key key }

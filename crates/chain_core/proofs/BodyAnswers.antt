@@ -95,18 +95,20 @@ body_fault key signature main len flash flash' hook hook' body fault looks asked
   looks = looks;
   asked = asked;
   fault = λ told told'. sym (found told told');
+  within = tt;
   many = tt;
   filled = λ told. tt;
 }
 
 pub body_good : (key : PackedKey) (signature : List ℕ) (main : Area) (len : ℕ) (flash flash' : FlashState) (hook hook' : HookState) (body : List ℕ) → Looks flash flash' false → Asked hook hook' false
     → (IsTrue flash.medium.told → IsTrue hook.told → first_fault body_table (body_question key signature main len flash hook) ≡ None)
-    → length body ≡ len → (IsTrue flash.medium.told → body ≡ range flash.medium.bytes main.at len)
+    → len ≤ main.size → length body ≡ len → (IsTrue flash.medium.told → body ≡ range flash.medium.bytes main.at len)
     → ChecksBody key signature main len flash flash' hook hook' body (Ok None)
-body_good key signature main len flash flash' hook hook' body looks asked none many filled = record {
+body_good key signature main len flash flash' hook hook' body looks asked none within many filled = record {
   looks = looks;
   asked = asked;
   fault = λ told told'. sym (none told told');
+  within = within;
   many = many;
   filled = filled;
 }

@@ -10,3 +10,4 @@ pub mod PreambleAnswers
 pub mod BodyAnswers
 pub mod Slots
 pub mod SlotAnswers
+pub mod SlotExits

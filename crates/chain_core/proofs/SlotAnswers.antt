@@ -192,7 +192,7 @@ pub record Ready (q : SlotQuestion) (hook hook' hook'' : HookState) (keyblock : 
   pub good : GoodPreamble rest packed q.stored q.rollback hook' hook'' preamble
   pub area : q.main ≡ area_bytes main flash.medium
 
-ready_parts : (q : SlotQuestion) (hook hook' hook'' : HookState) (keyblock : Keyblock) (packed : PackedKey) (rest : List ℕ) (preamble : FwPreamble) (main : Area) (flash : FlashState) → Ready q hook hook' hook'' keyblock packed rest preamble main flash
+pub ready_parts : (q : SlotQuestion) (hook hook' hook'' : HookState) (keyblock : Keyblock) (packed : PackedKey) (rest : List ℕ) (preamble : FwPreamble) (main : Area) (flash : FlashState) → Ready q hook hook' hook'' keyblock packed rest preamble main flash
     → preamble ≡ slot_preamble q
 ready_parts q hook hook' hook'' keyblock packed rest preamble main flash ready = ready.good.parts ∙ ap firmware_preamble_in (opened_rest q hook hook' keyblock packed rest ready.opened)
 

@@ -1,5 +1,5 @@
 -- What the calls that read and check a body do.
-use Rattle.std.specs.Prelude.{◌≡◌, ℕ, ◌+◌, Bool, true, false, IsTrue, List, ◌++◌, length, Option, Some, None, IfNone, Result, Ok, Err, is_err, IfOk, OnOk}
+use Rattle.std.specs.Prelude.{◌≡◌, ℕ, ◌≤◌, Bool, true, false, IsTrue, List, ◌++◌, length, Option, Some, None, IfNone, Result, Ok, Err, is_err, IfOk, OnOk}
 use Rattle.wire_core.specs.FirstFault.{first_fault}
 use Rattle.board_core.specs.Flash.{FlashState, range}
 use Rattle.board_core.specs.Hook.{HookState}
@@ -81,7 +81,9 @@ pub record ChecksBody (key : PackedKey) (signature : List ℕ) (main : Area) (le
   pub asked : Asked hook hook' (hook_failed result)
   -- the answer is the first fault of the table
   pub fault : IsTrue flash.medium.told → IsTrue hook.told → IfOk result (λ fault. fault ≡ first_fault body_table (body_question key signature main len flash hook))
-  -- a good body has so many bytes
+  -- a good body lies in its area
+  pub within : IfOk result (λ fault. IfNone fault (len ≤ main.size))
+  -- has so many bytes
   pub many : IfOk result (λ fault. IfNone fault (length body ≡ len))
   -- and is what the flash holds
   pub filled : IsTrue flash.medium.told → IfOk result (λ fault. IfNone fault (body ≡ range flash.medium.bytes main.at len))

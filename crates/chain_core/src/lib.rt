@@ -21,5 +21,6 @@ pub use fault::{BodyFault, Failure};
 pub use hasher::{Hasher, is_signed};
 pub use keyblock::{LARGEST_VERSION, verify_keyblock};
 pub use preamble::{combined_version, verify_preamble};
-pub use room::SlotRoom;
+pub use room::{LARGEST_MAIN, LARGEST_VBLOCK, SlotRoom};
+pub use slot::verify_slot;
 pub use slot_fault::{SlotFault, SlotOk};

@@ -6,10 +6,10 @@ use std::alloc::{AllocError, Global};
 use std::marker::Model;
 
 /// The most bytes that the area of a keyblock and preamble has.
-pub(crate) const LARGEST_VBLOCK: usize = 65536;
+pub const LARGEST_VBLOCK: usize = 65536;
 
 /// The most bytes that the area of a firmware body has.
-pub(crate) const LARGEST_MAIN: usize = 16777216;
+pub const LARGEST_MAIN: usize = 16777216;
 
 /// Room for what is read of a slot. Contracts see the body that it hands out.
 #[derive(Drop)]

@@ -44,7 +44,7 @@ returns-in-Ok-true-clause-meets g c =
         last_line q c.in-Ok-true.field-0 c.if-len-eq0.false c.if-len-main.false (c.if-signature-signature_length.false ∙ c.signature_length.ensures)
         (says_front hook c.args.key.now c.args.signature.now body c.args.main c.args.len flash c.in-Ok-true.field-0 c.if-len-main.false (read.filled told) (said.says told'))
         ∙ ap (λ t. cond (not t) (Some faults.Refused) None) c.in-Ok-true.field-0-test)
-    read.many read.filled
+    c.if-len-main.false read.many read.filled
 
 pub returns-in-Ok-false-clause-meets : goal.returns-in-Ok-false-clause-meets
 returns-in-Ok-false-clause-meets g c =

@@ -1,5 +1,5 @@
 -- Asking a hook for the digest of a message is asking for the message.
-use Rattle.std.proofs.Common.{◌≡◌, ℕ, Bool, true, false, List, Result, Ok, Err, take, refl, sym, ap, subst, ◌∙◌}
+use Rattle.std.proofs.Common.{◌≡◌, ℕ, Bool, true, false, List, Result, Ok, Err, take, sym, subst}
 use Rattle.std.proofs.lemmas.Bool.{cond-true, cond-false}
 use Rattle.std.specs.Prelude.{IsTrue, Any, IfOk, ◌↔◌}
 use Rattle.sha2.specs.Sha256.{sha256}
@@ -9,7 +9,7 @@ use Rattle.board_core.specs.declared.hook_row.HookRow.{HookRow}
 use Rattle.key_core.specs.Parts.{Key}
 use Rattle.key_core.specs.declared.key.PackedKey.{PackedKey}
 use Rattle.chain_core.specs.Hashing.{has_sha256, message_digest}
-use Rattle.chain_core.specs.Accepted.{key_of, is_enrolled, Asked, AsksFor}
+use Rattle.chain_core.specs.Accepted.{key_of, is_enrolled, AsksFor}
 use Rattle.chain_core.proofs.Rows.{answer_is_enrolled}
 
 pub digest_256 : (algorithm : ℕ) (message : List ℕ) → has_sha256 algorithm ≡ true → sha256 message ≡ message_digest algorithm message

@@ -1,6 +1,6 @@
 -- The table of a body, and answers of its check.
-use Rattle.std.proofs.Common.{◌≡◌, ℕ, ◌≤◌, ◌<◌, Bool, true, false, cond, not, Option, Some, None, List, Ok, Err, length, take, refl, ap, sym, ◌∙◌, ◌==◌, arith, rules}
-use Rattle.std.specs.Prelude.{IsTrue, nat_lt, IfOk, IfNone}
+use Rattle.std.proofs.Common.{◌≡◌, ℕ, ◌≤◌, ◌<◌, Bool, true, false, cond, not, Option, Some, None, List, Ok, length, take, refl, ap, sym, ◌∙◌, ◌==◌, arith, rules}
+use Rattle.std.specs.Prelude.{IsTrue, nat_lt}
 use Rattle.std.proofs.lemmas.Bool.{le-ltb}
 use Rattle.wire_core.specs.FirstFault.{first_fault}
 use Rattle.board_core.specs.Flash.{FlashState, range}
@@ -16,7 +16,6 @@ use Rattle.chain_core.specs.Bodies.{ChecksBody, body_question}
 use Rattle.chain_core.specs.declared.fault.BodyFault.{BodyFault}
 use Rattle.chain_core.specs.declared.fault.BodyFault.TheVariants as faults
 use Rattle.chain_core.proofs.Lifted.{is_other, is_same}
-use Rattle.chain_core.proofs.Said.{Said}
 
 -- ---- the table
 

@@ -1,10 +1,9 @@
 -- The tables of a keyblock and of a preamble, line group by line group.
-use Rattle.std.proofs.Common.{◌≡◌, ℕ, Bool, true, false, cond, not, Option, Some, None, List, ◌++◌, length, refl, ap, sym, ◌∙◌, ◌==◌}
-use Rattle.wire_core.specs.FirstFault.{Table, line, first_fault}
+use Rattle.std.proofs.Common.{◌≡◌, ℕ, Bool, true, false, cond, not, Some, None, List, ◌++◌, length, refl, ap, sym, ◌∙◌, ◌==◌}
+use Rattle.wire_core.specs.FirstFault.{Table, first_fault}
 use Rattle.wire_core.proofs.FirstFault.{first_fault-append, first_fault-append_some}
-use Rattle.key_core.specs.Parts.{Key}
 use Rattle.key_core.specs.Algorithms.{signature_length}
-use Rattle.key_core.specs.Keyblocks.{Keyblock, keyblock_lines, keyblock_in, seal_of, data_key_of, KeyblockFits}
+use Rattle.key_core.specs.Keyblocks.{Keyblock, keyblock_lines, seal_of, data_key_of}
 use Rattle.key_core.specs.declared.keyblock.Seal.TheVariants as seals
 use Rattle.key_core.specs.declared.fault.KeyblockFault.{KeyblockFault}
 use Rattle.key_core.specs.declared.fault.KeyblockFault.TheVariants as keyblock_faults

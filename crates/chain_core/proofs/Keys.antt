@@ -1,5 +1,5 @@
 -- Keys of which no line holds can be used, and have room in their copy.
-use Rattle.std.proofs.Common.{◌≡◌, ℕ, zero, suc, ◌+◌, ◌*◌, ◌/◌, ◌≤◌, false, None, arith, refl, List, [], ◌∷◌}
+use Rattle.std.proofs.Common.{◌≡◌, ℕ, zero, suc, ◌/◌, ◌≤◌, false, None, arith}
 use Rattle.std.specs.Prelude.{slice_index}
 use Rattle.wire_core.specs.FirstFault.{first_fault}
 use Rattle.wire_core.proofs.FirstFault.{first_fault-none}

@@ -1,7 +1,7 @@
 -- The first fault of tables that are lifted or stand one after the other.
-use Rattle.std.proofs.Common.{◌≡◌, ℕ, Bool, true, false, cond, not, Option, Some, None, List, [], ◌∷◌, ◌++◌, refl, ap, sym, ◌∙◌, ◌≤◌, ◌<◌, arith}
+use Rattle.std.proofs.Common.{◌≡◌, ℕ, Bool, true, false, cond, not, Option, Some, None, [], ◌∷◌, ◌++◌, refl, ap, sym, ◌∙◌, ◌≤◌, arith}
 use Rattle.std.specs.Prelude.{nat_lt, ◌==◌}
-use Rattle.wire_core.specs.FirstFault.{Line, Table, line, first_fault}
+use Rattle.wire_core.specs.FirstFault.{Table, first_fault}
 use Rattle.wire_core.proofs.FirstFault.{first_fault-append, first_fault-append_some}
 use Rattle.chain_core.specs.Tables.{lifted}
 

@@ -1,8 +1,8 @@
 -- The table of a firmware preamble, and answers of its check.
-use Rattle.std.proofs.Common.{◌≡◌, ℕ, ◌≤◌, ◌<◌, Bool, true, false, cond, not, Option, Some, None, List, Ok, Err, ◌++◌, length, refl, ap, sym, ◌∙◌, ◌==◌, arith}
+use Rattle.std.proofs.Common.{◌≡◌, ℕ, ◌≤◌, ◌<◌, Bool, true, false, cond, not, Option, Some, None, List, Ok, Err, length, refl, ap, sym, ◌∙◌, ◌==◌, arith}
 use Rattle.std.specs.Prelude.{IsTrue, nat_lt, ◌&&◌}
 use Rattle.std.proofs.lemmas.Bool.{le-ltb}
-use Rattle.wire_core.specs.FirstFault.{Table, line, first_fault}
+use Rattle.wire_core.specs.FirstFault.{Table, first_fault}
 use Rattle.wire_core.proofs.FirstFault.{first_fault-append, first_fault-append_some}
 use Rattle.board_core.specs.Hook.{HookState}
 use Rattle.key_core.specs.Algorithms.{signature_length}

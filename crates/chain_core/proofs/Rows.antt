@@ -1,12 +1,11 @@
 -- The answer of a hook is the test of its rows.
-use Rattle.std.proofs.Common.{◌≡◌, ℕ, Bool, true, false, List, refl, sym, ◌∙◌}
+use Rattle.std.proofs.Common.{◌≡◌, ℕ, Bool, List, refl}
 use Rattle.std.proofs.lemmas.Bool.Decides.{Decides-eqb, Decides-and, Decides-like}
 use Rattle.std.proofs.lemmas.List.Folds.{Any-from_list_any, list_any-from_Any}
 use Rattle.std.proofs.lemmas.Slice.Eq.{slice_eq-Decides}
 use Rattle.std.specs.Bool.{Decides, one_answer}
-use Rattle.std.specs.Cmp.Lexicographic.{pointwise}
 use Rattle.std.specs.List.{list_any}
-use Rattle.std.specs.Prelude.{IsTrue, Any, ◌==◌, ◌&&◌, nat_eq, ◌↔◌}
+use Rattle.std.specs.Prelude.{IsTrue, Any, ◌↔◌}
 use Rattle.board_core.specs.Hook.{IsRowOf}
 use Rattle.board_core.specs.declared.hook_row.HookRow.{HookRow}
 use Rattle.key_core.specs.Parts.{Key}

@@ -1,10 +1,9 @@
 -- What a hook said of a message and a signature.
-use Rattle.std.proofs.Common.{◌≡◌, Bool, true, false, List, ℕ, Result, Ok, Err, refl, sym, ap, subst, ◌∙◌, ◌≤◌, arith}
-use Rattle.std.specs.Prelude.{IsTrue, is_err, IfOk}
+use Rattle.std.proofs.Common.{◌≡◌, Bool, true, false, List, ℕ, Result, Ok, Err, refl, ap, subst, ◌∙◌, arith}
+use Rattle.std.specs.Prelude.{IsTrue, is_err}
 use Rattle.std.proofs.lemmas.Result.{IfOk-at_ok}
 use Rattle.std.proofs.lemmas.Bool.{false≢true}
 use Rattle.board_core.specs.Hook.{HookState}
-use Rattle.board_core.specs.declared.hook_row.HookRow.{HookRow}
 use Rattle.key_core.specs.Parts.{Key}
 use Rattle.chain_core.specs.Accepted.{Asked, AsksFor, is_enrolled}
 

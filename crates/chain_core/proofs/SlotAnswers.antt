@@ -1,8 +1,8 @@
 -- What the checks of the parts say of a slot, and answers of its check.
-use Rattle.std.proofs.Common.{◌≡◌, ℕ, ◌+◌, ◌≤◌, Bool, true, false, Option, Some, None, List, Result, Ok, Err, length, take, drop, refl, ap, sym, subst, ◌∙◌, arith}
+use Rattle.std.proofs.Common.{◌≡◌, ℕ, ◌≤◌, Bool, false, Option, Some, None, List, Result, Ok, Err, length, take, drop, refl, ap, sym, subst, ◌∙◌, arith}
 use Rattle.std.specs.Prelude.{IsTrue}
 use Rattle.wire_core.specs.FirstFault.{first_fault}
-use Rattle.board_core.specs.Flash.{FlashMedium, FlashState, range}
+use Rattle.board_core.specs.Flash.{FlashState}
 use Rattle.board_core.specs.Hook.{HookState}
 use Rattle.board_core.specs.declared.hook_row.HookRow.{HookRow}
 use Rattle.key_core.specs.Algorithms.{padded}
@@ -16,11 +16,10 @@ use Rattle.preamble_core.specs.declared.fault.FwPreambleFault.{FwPreambleFault}
 use Rattle.rom_core.specs.Gbb.{Looks, area_bytes}
 use Rattle.rom_core.specs.declared.area.Area.{Area}
 use Rattle.chain_core.specs.Accepted.{Asked, key_of}
-use Rattle.chain_core.specs.Tables.{KeyblockQuestion, keyblock_table, data_key_lines, PreambleQuestion, preamble_table, BodyQuestion, body_table, combined_version}
+use Rattle.chain_core.specs.Tables.{KeyblockQuestion, keyblock_table, PreambleQuestion, preamble_table, BodyQuestion}
 use Rattle.chain_core.specs.Checking.{keyblock_question, view_question, ChecksKeyblock, preamble_question, ChecksPreamble}
-use Rattle.chain_core.specs.Bodies.{is_store, is_hook, body_question, ChecksBody}
+use Rattle.chain_core.specs.Bodies.{is_store, is_hook, body_question}
 use Rattle.chain_core.specs.Slot.{SlotQuestion, slot_keyblock, slot_preamble, slot_body, slot_ok, slot_fault, copy_of, asked_of_keyblock, asked_of_preamble, asked_of_body, FirmwareChain, VerifiesSlot}
-use Rattle.chain_core.specs.declared.fault.BodyFault.{BodyFault}
 use Rattle.chain_core.specs.declared.fault.Failure.{Failure}
 use Rattle.chain_core.specs.declared.slot_fault.SlotFault.{SlotFault}
 use Rattle.chain_core.specs.declared.slot_fault.SlotOk.{SlotOk}

@@ -1,6 +1,6 @@
 -- The exits of the check of a slot.
-use Rattle.std.proofs.Common.{◌≡◌, ℕ, ◌+◌, ◌≤◌, Bool, true, false, Option, Some, None, List, Result, Ok, Err, length, take, refl, ap, sym, subst, ◌∙◌}
-use Rattle.std.specs.Prelude.{IsTrue, is_err, OnOk, IfOk, IfNone}
+use Rattle.std.proofs.Common.{◌≡◌, ℕ, ◌+◌, ◌≤◌, Bool, true, false, Option, Some, None, List, Result, Ok, Err, length, take, ap, sym, subst, ◌∙◌}
+use Rattle.std.specs.Prelude.{IsTrue, is_err, OnOk}
 use Rattle.wire_core.specs.FirstFault.{first_fault}
 use Rattle.board_core.specs.Counters.{Observed}
 use Rattle.board_core.specs.Flash.{FlashMedium, FlashState, Reads, range}
@@ -17,15 +17,15 @@ use Rattle.rom_core.proofs.GbbReads.{looks_then}
 use Rattle.chain_core.specs.Accepted.{Asked}
 use Rattle.chain_core.specs.Tables.{keyblock_table, preamble_table, body_table, combined_version}
 use Rattle.chain_core.specs.Checking.{keyblock_question, ChecksKeyblock, preamble_question, ChecksPreamble}
-use Rattle.chain_core.specs.Bodies.{store_failed, hook_failed, body_question, ChecksBody}
-use Rattle.chain_core.specs.Slot.{SlotQuestion, slot_keyblock, slot_preamble, slot_body, slot_ok, copy_of, slot_fault, asked_of_preamble, asked_of_body}
+use Rattle.chain_core.specs.Bodies.{store_failed, hook_failed, ChecksBody}
+use Rattle.chain_core.specs.Slot.{SlotQuestion, slot_keyblock, slot_preamble, slot_ok, copy_of, slot_fault, asked_of_preamble, asked_of_body}
 use Rattle.chain_core.specs.declared.fault.BodyFault.{BodyFault}
 use Rattle.chain_core.specs.declared.fault.Failure.{Failure}
 use Rattle.chain_core.specs.declared.slot_fault.SlotFault.TheVariants as slot_faults
 use Rattle.chain_core.specs.declared.slot_fault.SlotOk.{SlotOk}
 use Rattle.chain_core.proofs.Said.{asked_then}
-use Rattle.chain_core.proofs.Slots.{Found, at_preamble, at_body}
-use Rattle.chain_core.proofs.SlotAnswers.{Good, GoodKeyblock, Opened, Copied, copied_whole, Ready, ready_parts, body_asked, parts_of, no_keyblock_fault, preamble_found}
+use Rattle.chain_core.proofs.Slots.{at_preamble, at_body}
+use Rattle.chain_core.proofs.SlotAnswers.{Good, Opened, Copied, copied_whole, Ready, ready_parts, body_asked, parts_of, no_keyblock_fault, preamble_found}
 
 -- ---- the head was read
 
@@ -165,9 +165,9 @@ good_of q hook hook' hook'' hook''' keyblock packed rest preamble main flash fla
         body = ended_found q hook hook' hook'' hook''' keyblock packed rest preamble main flash flash' flash'' signature len out None ended told told';
       };
       is = ok_is ok (slot_ok q)
-        (version ∙ ap (λ (n : ℕ). combined_version n preamble.version) (ready.opened.copied.version ∙ ap (λ (k : Keyblock). k.data_key.version) ready.opened.good.parts) ∙ ap (λ (p : FwPreamble). combined_version (slot_keyblock q).data_key.version p.version) is)
-        (body_len ∙ len_is)
-        (copied_whole preamble.subkey ok.subkey subkey ∙ ap (λ (p : FwPreamble). copy_of p.subkey) is);
+          (version ∙ ap (λ (n : ℕ). combined_version n preamble.version) (ready.opened.copied.version ∙ ap (λ (k : Keyblock). k.data_key.version) ready.opened.good.parts) ∙ ap (λ (p : FwPreamble). combined_version (slot_keyblock q).data_key.version p.version) is)
+          (body_len ∙ len_is)
+          (copied_whole preamble.subkey ok.subkey subkey ∙ ap (λ (p : FwPreamble). copy_of p.subkey) is);
       many = ended.checks.many ∙ sym body_len;
       filled = λ told.
           ended.checks.filled (ap (λ (m : FlashMedium). m.told) ended.looks.medium ∙ told)

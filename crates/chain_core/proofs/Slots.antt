@@ -1,22 +1,21 @@
 -- The table of a slot, and the chain of its signatures.
-use Rattle.std.proofs.Common.{◌≡◌, ℕ, ◌≤◌, Bool, true, false, not, Option, Some, None, List, ◌++◌, length, take, refl, ap, sym, subst, ◌∙◌, ◌==◌, arith}
+use Rattle.std.proofs.Common.{◌≡◌, ℕ, Bool, true, false, not, Some, None, List, ◌++◌, length, take, refl, ◌∙◌, ◌==◌}
 use Rattle.std.specs.Prelude.{Any}
 use Rattle.wire_core.specs.FirstFault.{Table, first_fault}
 use Rattle.wire_core.proofs.FirstFault.{first_fault-append, first_fault-append_some, first_fault-none}
 use Rattle.board_core.specs.Hook.{IsRowOf}
 use Rattle.board_core.specs.declared.hook_row.HookRow.{HookRow}
-use Rattle.key_core.specs.Algorithms.{signature_length, key_length}
+use Rattle.key_core.specs.Algorithms.{signature_length}
 use Rattle.key_core.specs.Parts.{Key}
-use Rattle.key_core.specs.Keyblocks.{Keyblock, keyblock_lines, keyblock_in, KeyblockFits, KeyblockIsSigned}
-use Rattle.key_core.specs.declared.key.PackedKey.{PackedKey}
+use Rattle.key_core.specs.Keyblocks.{keyblock_lines, KeyblockFits, KeyblockIsSigned}
 use Rattle.key_core.specs.declared.keyblock.Seal.TheVariants as seals
 use Rattle.key_core.specs.declared.fault.KeyblockFault.{KeyblockFault}
-use Rattle.preamble_core.specs.Firmware.{FwPreamble, firmware_lines, FwPreambleFits, FwPreambleIsSigned}
+use Rattle.preamble_core.specs.Firmware.{firmware_lines, FwPreambleFits, FwPreambleIsSigned}
 use Rattle.preamble_core.specs.declared.fault.FwPreambleFault.{FwPreambleFault}
 use Rattle.chain_core.specs.Hashing.{message_digest}
 use Rattle.chain_core.specs.Accepted.{Accepts, key_of, is_enrolled}
 use Rattle.chain_core.specs.Tables.{lifted, KeyblockQuestion, keyblock_of, keyblock_table, signer_lines, signer_question, seal_lines, data_key_lines, data_key_question, PreambleQuestion, preamble_of, further_preamble_lines, preamble_table, BodyQuestion, body_table}
-use Rattle.chain_core.specs.Slot.{SlotQuestion, slot_keyblock, slot_preamble, slot_body, asked_of_keyblock, asked_of_preamble, asked_of_body, slot_table, slot_fault, FirmwareChain}
+use Rattle.chain_core.specs.Slot.{SlotQuestion, slot_keyblock, slot_preamble, asked_of_keyblock, asked_of_preamble, asked_of_body, slot_table, slot_fault, FirmwareChain}
 use Rattle.chain_core.specs.declared.fault.BodyFault.{BodyFault}
 use Rattle.chain_core.specs.declared.slot_fault.SlotFault.{SlotFault}
 use Rattle.chain_core.specs.declared.slot_fault.SlotFault.TheVariants as slot_faults
@@ -108,7 +107,6 @@ accepts_preamble q e known fits =
       signature_size = fits.signature_length ∙ is_equal _ _ further.0;
       row = enrolled_row q.rows q.key (preamble_of q).signed (preamble_of q).signature further.1.0;
     }
-
 
 body_signed : (q : BodyQuestion) → first_fault body_table q ≡ None → (not (q.signature_size == signature_length q.key.algorithm) ≡ false) × (not (is_enrolled q.rows q.key (take q.len q.bytes) q.signature) ≡ false)
 unfolding body_table

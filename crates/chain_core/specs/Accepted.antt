@@ -1,5 +1,5 @@
 -- When a signature is accepted, and what it is to ask a hook for it.
-use Rattle.std.specs.Prelude.{◌≡◌, ℕ, ◌≤◌, List, length, take, nat_eq, ◌==◌, ◌&&◌, Any, Bool, true, false, IsTrue, Result, is_err, IfOk}
+use Rattle.std.specs.Prelude.{◌≡◌, ℕ, ◌≤◌, List, length, take, nat_eq, ◌==◌, ◌&&◌, Any, Bool, false, IsTrue, Result, is_err, IfOk}
 use Rattle.std.specs.List.{list_any}
 use Rattle.std.specs.Cmp.Lexicographic.{pointwise}
 use Rattle.sha2.specs.Sha256.{sha256}

@@ -2,9 +2,8 @@
 -- further ones, which look at a key, at the rows of a hook and at the stored version.
 -- Source: `vb2_verify_keyblock`, `vb2_load_fw_keyblock`, `vb2_verify_fw_preamble`, `vb2_load_fw_preamble` and
 -- `vb2api_check_hash` of vboot_reference (firmware/2lib).
-use Rattle.std.specs.Prelude.{◌≡◌, ℕ, ◌+◌, ◌*◌, ◌/◌, Bool, not, ◌&&◌, List, [], ◌∷◌, ◌++◌, length, take, map, nat_lt, ◌==◌}
-use Rattle.wire_core.specs.Fields.{number_at}
-use Rattle.wire_core.specs.FirstFault.{Line, Table, line}
+use Rattle.std.specs.Prelude.{ℕ, ◌+◌, ◌*◌, ◌/◌, Bool, not, ◌&&◌, List, [], ◌∷◌, ◌++◌, take, map, nat_lt, ◌==◌}
+use Rattle.wire_core.specs.FirstFault.{Table, line}
 use Rattle.board_core.specs.declared.hook_row.HookRow.{HookRow}
 use Rattle.key_core.specs.Algorithms.{KeyQuestion, is_sha1, key_length, signature_length}
 use Rattle.key_core.specs.Parts.{Key}

@@ -5,7 +5,7 @@ ghost use Rattle.chain_core.specs.Bodies.{TakesPiece, ReadsBody, ChecksBody};
 use crate::fault::{BodyFault, Failure};
 use crate::hasher::Hasher;
 use board_core::{Failed, Flash, Hook};
-use key_core::{LAST_ALGORITHM, LARGEST_KEY, PackedKey, signature_length};
+use key_core::{LARGEST_KEY, LAST_ALGORITHM, PackedKey, signature_length};
 use rom_core::Area;
 
 /// The most bytes of a body that are read with one call.
@@ -35,7 +35,13 @@ fn take_piece<F: Flash>(
 
 // Reads `len` bytes from `at` as the body, and answers the hasher that has taken them in. The body has room for them, and
 // takes no memory.
-fn read_body<F: Flash>(flash: &mut F, at: u32, len: u32, algorithm: u32, body: &mut Vec<u8>) -> Result<Hasher, Failed>
+fn read_body<F: Flash>(
+    flash: &mut F,
+    at: u32,
+    len: u32,
+    algorithm: u32,
+    body: &mut Vec<u8>,
+) -> Result<Hasher, Failed>
     requires inside { at + len ≤ (F.state flash.old).medium.size }
     requires room { len ≤ vec_capacity body.old }
     ensures meets { ReadsBody at len algorithm (F.state flash.old) (F.state flash.new) body.new.items result }

@@ -40,15 +40,30 @@ impl Hasher {
     /// Asks the hook whether this signature of the message by this key is enrolled. The hasher is of the key's algorithm.
     ///
     /// `Failed`: the hook failed, and its count of faults rose.
-    pub fn verify<H: Hook>(self, hook: &mut H, key: &PackedKey, signature: &[u8]) -> Result<bool, Failed>
+    pub fn verify<H: Hook>(
+        self,
+        hook: &mut H,
+        key: &PackedKey,
+        signature: &[u8],
+    ) -> Result<bool, Failed>
         requires { key.now.size ≤ LARGEST_KEY }
         ensures meets { (message : List ℕ) → HoldsMessage key.now.algorithm self message → AsksFor (key_of key.now) message signature.now (H.state hook.old) (H.state hook.new) result }
         ensures key { length (key_of key.now).bytes ≡ key.now.size }
     {
         let bytes = key_bytes(key);
         match self {
-            Hasher::Sha256(hasher) => hook.verify(key.algorithm, bytes, &hasher.finalize(), signature),
-            Hasher::Sha512(hasher) => hook.verify(key.algorithm, bytes, &hasher.finalize(), signature),
+            Hasher::Sha256(hasher) => hook.verify(
+                key.algorithm,
+                bytes,
+                &hasher.finalize(),
+                signature,
+            ),
+            Hasher::Sha512(hasher) => hook.verify(
+                key.algorithm,
+                bytes,
+                &hasher.finalize(),
+                signature,
+            ),
         }
     }
 }
@@ -57,7 +72,12 @@ impl Hasher {
 /// algorithm, which is not one of SHA-1. The hook keeps its rows.
 ///
 /// `Failed`: the hook failed, and its count of faults rose.
-pub fn is_signed<H: Hook>(hook: &mut H, key: &PackedKey, message: &[u8], signature: &[u8]) -> Result<bool, Failed>
+pub fn is_signed<H: Hook>(
+    hook: &mut H,
+    key: &PackedKey,
+    message: &[u8],
+    signature: &[u8],
+) -> Result<bool, Failed>
     requires { key.now.size ≤ LARGEST_KEY }
     ensures meets { AsksFor (key_of key.now) message.now signature.now (H.state hook.old) (H.state hook.new) result }
     ensures key { length (key_of key.now).bytes ≡ key.now.size }

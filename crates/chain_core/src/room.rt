@@ -1,5 +1,5 @@
 // The room that a slot is verified in.
-ghost use Rattle.std.specs.Prelude.{◌≡◌, ℕ, List, [], IfOk, vec_len, vec_capacity};
+ghost use Rattle.std.specs.Prelude.{◌≡◌, ℕ, List, [], IfOk, length, vec_capacity};
 ghost use Rattle.chain_core.specs.Room.{HasRoom};
 
 use std::alloc::{AllocError, Global};
@@ -23,7 +23,7 @@ impl Model for SlotRoom {
 
     ghost view = { λ r. r.body.items };
 
-    ghost invariant = { λ r. HasRoom (vec_len r.vblock) (vec_capacity r.body) };
+    ghost invariant = { λ r. HasRoom (length r.vblock.items) (vec_capacity r.body) };
 }
 
 impl SlotRoom {

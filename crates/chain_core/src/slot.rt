@@ -55,7 +55,15 @@ fn check_slot<F: Flash, H: Hook>(
         Err(Failed) => return Err(Failure::Hook),
     };
     let body_len = preamble.body_len();
-    match verify_flash_body(flash, hook, &key, preamble.body_signature(), main, body_len, body) {
+    match verify_flash_body(
+        flash,
+        hook,
+        &key,
+        preamble.body_signature(),
+        main,
+        body_len,
+        body,
+    ) {
         Ok(None) => Ok(Ok(SlotOk {
             version: combined_version(key.version, preamble.version()),
             body_len,
@@ -64,6 +72,32 @@ fn check_slot<F: Flash, H: Hook>(
         Ok(Some(fault)) => Ok(Err(SlotFault::Body(fault))),
         Err(failure) => Err(failure),
     }
+}
+
+// The same, with room for the largest area of keyblock and preamble.
+fn check_in_room<F: Flash, H: Hook>(
+    flash: &mut F,
+    hook: &mut H,
+    root: &PackedKey,
+    vblock: Area,
+    main: Area,
+    stored: u32,
+    rollback: bool,
+    room: &mut Vec<u8>,
+    body: &mut Vec<u8>,
+) -> Result<Result<SlotOk, SlotFault>, Failure>
+    requires vblock_inside { vblock.at + vblock.size ≤ (F.state flash.old).medium.size }
+    requires main_inside { main.at + main.size ≤ (F.state flash.old).medium.size }
+    requires head { vblock.size ≤ length room.old.items }
+    requires room { main.size ≤ vec_capacity body.old }
+    ensures meets { VerifiesSlot (slot_question root.now vblock main stored rollback (F.state flash.old) (H.state hook.old)) (F.state flash.old) (F.state flash.new) (H.state hook.old) (H.state hook.new) body.new.items result }
+    ensures same_length { length room.new.items ≡ length room.old.items }
+    ensures capacity { vec_capacity body.old ≤ vec_capacity body.new }
+{
+    let head = &mut room[..vblock.size as usize];
+    check_slot(
+        flash, hook, root, vblock, main, stored, rollback, head, body,
+    )
 }
 
 /// Verifies the slot of which keyblock and preamble stand in one area of the flash and the body in another: `root` is to have
@@ -91,6 +125,16 @@ pub fn verify_slot<F: Flash, H: Hook>(
     requires main_size { main.size ≤ LARGEST_MAIN }
     ensures meets { VerifiesSlot (slot_question root.now vblock main stored rollback (F.state flash.old) (H.state hook.old)) (F.state flash.old) (F.state flash.new) (H.state hook.old) (H.state hook.new) room.new result }
 {
-    let head = &mut room.vblock[..vblock.size as usize];
-    check_slot(flash, hook, root, vblock, main, stored, rollback, head, &mut room.body)
+    let head = &mut room.vblock;
+    check_in_room(
+        flash,
+        hook,
+        root,
+        vblock,
+        main,
+        stored,
+        rollback,
+        head,
+        &mut room.body,
+    )
 }

@@ -23,8 +23,10 @@ returns-then-signature-signature_length g c =
     let old = g.H.Hook.state c.args.hook.now in
     let q : PreambleQuestion = preamble_question c.args.bytes.now c.args.key.now c.args.stored c.args.rollback old in
     let viewed : Viewed q c.in-Ok.preamble = record { none = c.in-Ok.ensures.none; parts = c.in-Ok.ensures.parts; signature_size = c.in-Ok.ensures.fits.signature_length } in
-    record { meets = preamble_fault _ _ _ _ old old _ (asked_none old) (λ told.
-        sig_size_fault q c.in-Ok.preamble viewed (λ e. c.if-signature-signature_length.true (sym (long _ _ c.signature.ensures) ∙ e ∙ sym c.signature_length.ensures))) }
+    record {
+      meets = preamble_fault _ _ _ _ old old _ (asked_none old) (λ told.
+          sig_size_fault q c.in-Ok.preamble viewed (λ e. c.if-signature-signature_length.true (sym (long _ _ c.signature.ensures) ∙ e ∙ sym c.signature_length.ensures)));
+    }
 
 pub returns-in_err-is_signed : goal.returns-in_err-is_signed
 returns-in_err-is_signed g c =
@@ -73,8 +75,10 @@ returns-then-combined_version-stored g c =
       says = said.says told;
     } in
     let fits : preamble.version ≤ 65535 = omega (arith, c.version-version.ensures, c.if-version-gt-LARGEST_VERSION.false) in
-    record { meets = preamble_fault _ _ _ _ old new _ said.asked (λ told. rollback_fault q preamble c.in_ok-is_signed.field-0 (answered told) c.if-not-branch.false fits
-        (is_old c.args.rollback c.combined_version.result (combined_version c.args.key.now.version preamble.version) c.args.stored c.if-rollback.true (c.combined_version.ensures ∙ ap (λ (n : ℕ). combined_version c.args.key.now.version n) c.version-version.ensures) c.if-combined_version-stored.true)) }
+    record {
+      meets = preamble_fault _ _ _ _ old new _ said.asked (λ told. rollback_fault q preamble c.in_ok-is_signed.field-0 (answered told) c.if-not-branch.false fits
+          (is_old c.args.rollback c.combined_version.result (combined_version c.args.key.now.version preamble.version) c.args.stored c.if-rollback.true (c.combined_version.ensures ∙ ap (λ (n : ℕ). combined_version c.args.key.now.version n) c.version-version.ensures) c.if-combined_version-stored.true));
+    }
 
 pub returns : goal.returns
 returns g c =

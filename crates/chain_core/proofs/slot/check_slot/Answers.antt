@@ -1,5 +1,5 @@
 -- At each exit the calls that were made changed nothing, and what they found decides the answer.
-use Rattle.std.proofs.Common.{◌≡◌, ◌∙◌, ◌+◌, ◌≤◌, ℕ, List, Some, None, Ok, Err, false, length, drop, refl, sym, subst, ap, arith}
+use Rattle.std.proofs.Common.{◌≡◌, ◌∙◌, ◌≤◌, ℕ, List, Some, None, Ok, Err, false, length, drop, refl, sym, subst, ap, arith}
 use Rattle.std.specs.Prelude.{IsTrue, is_err}
 use Rattle.board_core.specs.Flash.{FlashMedium}
 use Rattle.key_core.specs.Parts.{Key}
@@ -7,7 +7,6 @@ use Rattle.rom_core.specs.Gbb.{Looks, area_bytes}
 use Rattle.chain_core.specs.Tables.{combined_version}
 use Rattle.chain_core.specs.Slot.{SlotQuestion}
 use Rattle.chain_core.specs.declared.fault.Failure.TheVariants as failures
-use Rattle.chain_core.specs.declared.slot_fault.SlotFault.TheVariants as slot_faults
 use Rattle.chain_core.proofs.Keys.{known_fits}
 use Rattle.chain_core.proofs.Said.{asked_then}
 use Rattle.chain_core.proofs.Slots.{at_keyblock}

@@ -48,7 +48,8 @@ pub record Piece (at count : ℕ) (old : FlashState) (hasher hasher' : Hasher) (
   pub taken : (algorithm : ℕ) (message : List ℕ) → HoldsMessage algorithm hasher message → HoldsMessage algorithm hasher' (message ++ bytes)
 
 -- The call to read a piece.
-pub record TakesPiece {E : Type 0} (at count : ℕ) (old new : FlashState) (hasher hasher' : Hasher) (body body' : List ℕ) (result : Result Unit E) : Type 0 where
+pub record TakesPiece {E : Type 0} (at count : ℕ) (old new : FlashState) (hasher hasher' : Hasher)
+    (body body' : List ℕ) (result : Result Unit E) : Type 0 where
   pub looks : Looks old new (is_err result)
   pub ok : OnOk result (Piece at count old hasher hasher' body body')
 
@@ -75,12 +76,14 @@ body_question key signature main len flash hook = record {
 }
 
 -- The call to check a body in an area of a flash.
-pub record ChecksBody (key : PackedKey) (signature : List ℕ) (main : Area) (len : ℕ) (flash flash' : FlashState) (hook hook' : HookState) (body : List ℕ) (result : Result (Option BodyFault) Failure) : Type 0 where
+pub record ChecksBody (key : PackedKey) (signature : List ℕ) (main : Area) (len : ℕ)
+    (flash flash' : FlashState) (hook hook' : HookState) (body : List ℕ) (result : Result (Option BodyFault) Failure) : Type 0 where
   -- a flash or a hook that failed counted it once, and both hold what they held
   pub looks : Looks flash flash' (store_failed result)
   pub asked : Asked hook hook' (hook_failed result)
   -- the answer is the first fault of the table
-  pub fault : IsTrue flash.medium.told → IsTrue hook.told → IfOk result (λ fault. fault ≡ first_fault body_table (body_question key signature main len flash hook))
+  pub fault : IsTrue flash.medium.told → IsTrue hook.told → IfOk result (λ fault.
+      fault ≡ first_fault body_table (body_question key signature main len flash hook))
   -- a good body lies in its area
   pub within : IfOk result (λ fault. IfNone fault (len ≤ main.size))
   -- has so many bytes

@@ -57,7 +57,13 @@ asked_of_keyblock q = record { bytes = q.vblock; rows = q.rows; signer = q.root;
 
 -- the data key is to have signed the preamble
 abbrev pub asked_of_preamble : SlotQuestion → PreambleQuestion
-asked_of_preamble q = record { bytes = behind_keyblock q; rows = q.rows; key = (slot_keyblock q).data_key; stored = q.stored; rollback = q.rollback }
+asked_of_preamble q = record {
+  bytes = behind_keyblock q;
+  rows = q.rows;
+  key = (slot_keyblock q).data_key;
+  stored = q.stored;
+  rollback = q.rollback;
+}
 
 -- and the body
 abbrev pub asked_of_body : SlotQuestion → BodyQuestion
@@ -121,7 +127,8 @@ slot_question root vblock main stored rollback flash hook = record {
 }
 
 -- The call to verify a slot. `q` is what is asked, and `handed_out` the body that the room hands out after it.
-pub record VerifiesSlot (q : SlotQuestion) (flash flash' : FlashState) (hook hook' : HookState) (handed_out : List ℕ) (result : Result (Result SlotOk SlotFault) Failure) : Type 0 where
+pub record VerifiesSlot (q : SlotQuestion) (flash flash' : FlashState) (hook hook' : HookState) (handed_out : List ℕ)
+    (result : Result (Result SlotOk SlotFault) Failure) : Type 0 where
   -- a flash or a hook that failed counted it once, and both hold what they held
   pub looks : Looks flash flash' (store_failed result)
   pub asked : Asked hook hook' (hook_failed result)

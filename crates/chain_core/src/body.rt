@@ -79,7 +79,8 @@ pub fn verify_flash_body<F: Flash, H: Hook>(
     requires room { main.size ≤ vec_capacity body.old }
     requires algorithm { key.now.algorithm ≤ LAST_ALGORITHM }
     requires size { key.now.size ≤ LARGEST_KEY }
-    ensures meets { ChecksBody key.now signature.now main len (F.state flash.old) (F.state flash.new) (H.state hook.old) (H.state hook.new) body.new.items result }
+    ensures meets { ChecksBody key.now signature.now main len
+        (F.state flash.old) (F.state flash.new) (H.state hook.old) (H.state hook.new) body.new.items result }
     ensures capacity { vec_capacity body.old ≤ vec_capacity body.new }
 {
     if len == 0 {

@@ -29,7 +29,8 @@ impl Hasher {
 
     /// Adds a piece to the message.
     pub fn update(&mut self, piece: &[u8])
-        ensures { (algorithm : ℕ) (message : List ℕ) → HoldsMessage algorithm self.old message → HoldsMessage algorithm self.new (message ++ piece.now) }
+        ensures { (algorithm : ℕ) (message : List ℕ) → HoldsMessage algorithm self.old message →
+            HoldsMessage algorithm self.new (message ++ piece.now) }
     {
         match self {
             Hasher::Sha256(hasher) => hasher.update(piece),
@@ -47,7 +48,8 @@ impl Hasher {
         signature: &[u8],
     ) -> Result<bool, Failed>
         requires { key.now.size ≤ LARGEST_KEY }
-        ensures meets { (message : List ℕ) → HoldsMessage key.now.algorithm self message → AsksFor (key_of key.now) message signature.now (H.state hook.old) (H.state hook.new) result }
+        ensures meets { (message : List ℕ) → HoldsMessage key.now.algorithm self message →
+            AsksFor (key_of key.now) message signature.now (H.state hook.old) (H.state hook.new) result }
         ensures key { length (key_of key.now).bytes ≡ key.now.size }
     {
         let bytes = key_bytes(key);

@@ -16,7 +16,8 @@ pub const LARGEST_VERSION: u32 = 0xffff;
 
 // The first of lines 9 to 11 of the keyblock table whose test holds: what is wrong with the key that is to have signed it.
 fn signer_fault(signer: &PackedKey) -> Option<KeyblockFault>
-    ensures { let key : KeyQuestion = record { algorithm = signer.now.algorithm; size = signer.now.size } in result ≡ first_fault signer_lines key }
+    ensures { let key : KeyQuestion = record { algorithm = signer.now.algorithm; size = signer.now.size } in
+        result ≡ first_fault signer_lines key }
 {
     match key_fault(signer.algorithm, signer.size)? {
         KeyFault::Algorithm => Some(KeyblockFault::SignerAlgorithm),

@@ -24,3 +24,6 @@ pub use preamble::{combined_version, verify_preamble};
 pub use room::{LARGEST_MAIN, LARGEST_VBLOCK, SlotRoom};
 pub use slot::verify_slot;
 pub use slot_fault::{SlotFault, SlotOk};
+
+#[cfg(test)]
+mod tests;

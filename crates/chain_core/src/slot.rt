@@ -36,7 +36,8 @@ fn check_slot<F: Flash, H: Hook>(
     requires main_inside { main.at + main.size ≤ (F.state flash.old).medium.size }
     requires head { length head.old ≡ vblock.size }
     requires room { main.size ≤ vec_capacity body.old }
-    ensures meets { VerifiesSlot (slot_question root.now vblock main stored rollback (F.state flash.old) (H.state hook.old)) (F.state flash.old) (F.state flash.new) (H.state hook.old) (H.state hook.new) body.new.items result }
+    ensures meets { VerifiesSlot (slot_question root.now vblock main stored rollback (F.state flash.old) (H.state hook.old))
+        (F.state flash.old) (F.state flash.new) (H.state hook.old) (H.state hook.new) body.new.items result }
     ensures capacity { vec_capacity body.old ≤ vec_capacity body.new }
 {
     if flash.read(vblock.at, head).is_err() {
@@ -90,7 +91,8 @@ fn check_in_room<F: Flash, H: Hook>(
     requires main_inside { main.at + main.size ≤ (F.state flash.old).medium.size }
     requires head { vblock.size ≤ length room.old.items }
     requires room { main.size ≤ vec_capacity body.old }
-    ensures meets { VerifiesSlot (slot_question root.now vblock main stored rollback (F.state flash.old) (H.state hook.old)) (F.state flash.old) (F.state flash.new) (H.state hook.old) (H.state hook.new) body.new.items result }
+    ensures meets { VerifiesSlot (slot_question root.now vblock main stored rollback (F.state flash.old) (H.state hook.old))
+        (F.state flash.old) (F.state flash.new) (H.state hook.old) (H.state hook.new) body.new.items result }
     ensures same_length { length room.new.items ≡ length room.old.items }
     ensures capacity { vec_capacity body.old ≤ vec_capacity body.new }
 {
@@ -123,7 +125,8 @@ pub fn verify_slot<F: Flash, H: Hook>(
     requires vblock_size { vblock.size ≤ LARGEST_VBLOCK }
     requires main_inside { main.at + main.size ≤ (F.state flash.old).medium.size }
     requires main_size { main.size ≤ LARGEST_MAIN }
-    ensures meets { VerifiesSlot (slot_question root.now vblock main stored rollback (F.state flash.old) (H.state hook.old)) (F.state flash.old) (F.state flash.new) (H.state hook.old) (H.state hook.new) room.new result }
+    ensures meets { VerifiesSlot (slot_question root.now vblock main stored rollback (F.state flash.old) (H.state hook.old))
+        (F.state flash.old) (F.state flash.new) (H.state hook.old) (H.state hook.new) room.new result }
 {
     let head = &mut room.vblock;
     check_in_room(

@@ -1,0 +1,240 @@
+-- What the checks of the parts say of a slot, and answers of its check.
+use Rattle.std.proofs.Common.{◌≡◌, ℕ, ◌≤◌, Bool, false, Option, Some, None, List, Result, Ok, Err, length, take, drop, refl, ap, sym, subst, ◌∙◌, arith}
+use Rattle.std.specs.Prelude.{IsTrue}
+use Rattle.wire_core.specs.FirstFault.{first_fault}
+use Rattle.board_core.specs.Flash.{FlashState}
+use Rattle.board_core.specs.Hook.{HookState}
+use Rattle.board_core.specs.declared.hook_row.HookRow.{HookRow}
+use Rattle.key_core.specs.Algorithms.{padded}
+use Rattle.key_core.specs.Parts.{Key}
+use Rattle.key_core.specs.Keyblocks.{Keyblock, keyblock_in, KeyblockFits, KeyblockIsSigned}
+use Rattle.key_core.specs.declared.key.PackedKey.{PackedKey}
+use Rattle.key_core.specs.declared.keyblock.Seal.TheVariants as seals
+use Rattle.key_core.specs.declared.fault.KeyblockFault.{KeyblockFault}
+use Rattle.preamble_core.specs.Firmware.{FwPreamble, firmware_preamble_in, body_signature_of, FwPreambleFits, FwPreambleIsSigned}
+use Rattle.preamble_core.specs.declared.fault.FwPreambleFault.{FwPreambleFault}
+use Rattle.rom_core.specs.Gbb.{Looks, area_bytes}
+use Rattle.rom_core.specs.declared.area.Area.{Area}
+use Rattle.chain_core.specs.Accepted.{Asked, key_of}
+use Rattle.chain_core.specs.Tables.{KeyblockQuestion, keyblock_table, PreambleQuestion, preamble_table, BodyQuestion}
+use Rattle.chain_core.specs.Checking.{keyblock_question, view_question, ChecksKeyblock, preamble_question, ChecksPreamble}
+use Rattle.chain_core.specs.Bodies.{is_store, is_hook, body_question}
+use Rattle.chain_core.specs.Slot.{SlotQuestion, slot_keyblock, slot_preamble, slot_body, slot_ok, slot_fault, copy_of, asked_of_keyblock, asked_of_preamble, asked_of_body, FirmwareChain, VerifiesSlot}
+use Rattle.chain_core.specs.declared.fault.Failure.{Failure}
+use Rattle.chain_core.specs.declared.slot_fault.SlotFault.{SlotFault}
+use Rattle.chain_core.specs.declared.slot_fault.SlotOk.{SlotOk}
+use Rattle.chain_core.proofs.Keys.{Known, data_key_known, data_key_range, known_fits}
+use Rattle.chain_core.proofs.Slots.{Found, Parts, chain_of, nowhere}
+
+-- ---- answers
+
+pub slot_faulted : (question : List ℕ → SlotQuestion) (head whole : List ℕ) (flash flash' : FlashState) (hook hook' : HookState) (out : List ℕ) (fault : SlotFault) → Looks flash flash' false → Asked hook hook' false
+    → (IsTrue flash.medium.told → head ≡ whole) → (IsTrue flash.medium.told → IsTrue hook.told → slot_fault (question head) ≡ Some fault)
+    → VerifiesSlot (question whole) flash flash' hook hook' out (Ok (Err fault))
+slot_faulted question head whole flash flash' hook hook' out fault looks asked filled found = record {
+  looks = looks;
+  asked = asked;
+  fault = λ told told'. subst (λ (h : List ℕ). slot_fault (question h) ≡ Some fault) (filled told) (found told told');
+  none = λ told told'. tt;
+  ok = λ told. tt;
+  chain = λ told told'. tt;
+  many = tt;
+  body = λ told. tt;
+}
+
+pub slot_failed : (q : SlotQuestion) (flash flash' : FlashState) (hook hook' : HookState) (out : List ℕ) (failure : Failure) → Looks flash flash' (is_store failure) → Asked hook hook' (is_hook failure)
+    → VerifiesSlot q flash flash' hook hook' out (Err failure)
+slot_failed q flash flash' hook hook' out failure looks asked = record {
+  looks = looks;
+  asked = asked;
+  fault = λ told told'. tt;
+  none = λ told told'. tt;
+  ok = λ told. tt;
+  chain = λ told told'. tt;
+  many = tt;
+  body = λ told. tt;
+}
+
+-- What is known of a good slot, by the bytes that were read.
+pub record Good (q : SlotQuestion) (flash : FlashState) (hook : HookState) (out : List ℕ) (ok : SlotOk) : Type 0 where
+  pub parts : Parts q
+  pub found : IsTrue flash.medium.told → IsTrue hook.told → Found q
+  pub is : ok ≡ slot_ok q
+  pub many : length out ≡ ok.body_len
+  pub filled : IsTrue flash.medium.told → out ≡ slot_body q
+
+pub slot_good : (question : List ℕ → SlotQuestion) (head whole : List ℕ) (flash flash' : FlashState) (hook hook' : HookState) (out : List ℕ) (ok : SlotOk) → Looks flash flash' false → Asked hook hook' false
+    → (IsTrue flash.medium.told → head ≡ whole) → Good (question head) flash hook out ok → VerifiesSlot (question whole) flash flash' hook hook' out (Ok (Ok ok))
+slot_good question head whole flash flash' hook hook' out ok looks asked filled good =
+    record {
+      looks = looks;
+      asked = asked;
+      fault = λ told told'. tt;
+      none = λ told told'.
+          let found = good.found told told' in
+          subst (λ (h : List ℕ). slot_fault (question h) ≡ None) (filled told) (nowhere (question head) found.keyblock found.preamble found.body);
+      ok = λ told. subst (λ (h : List ℕ). ok ≡ slot_ok (question h)) (filled told) good.is;
+      chain = λ told told'. subst (λ (h : List ℕ). FirmwareChain (question h)) (filled told) (chain_of (question head) good.parts (good.found told told'));
+      many = good.many;
+      body = λ told. subst (λ (h : List ℕ). out ≡ slot_body (question h)) (filled told) (good.filled told);
+    }
+
+-- ---- the keyblock
+
+pub record GoodKeyblock (bytes : List ℕ) (signer : PackedKey) (stored : ℕ) (rollback : Bool) (old new : HookState) (keyblock : Keyblock) : Type 0 where
+  pub asked : Asked old new false
+  pub none : IsTrue old.told → first_fault keyblock_table (keyblock_question bytes signer stored rollback old) ≡ None
+  pub parts : keyblock ≡ keyblock_in seals.Signature bytes
+  pub fits : KeyblockFits seals.Signature bytes keyblock
+  pub signed : KeyblockIsSigned keyblock
+  pub copy : length (key_of signer).bytes ≡ signer.size
+  pub known : Known keyblock.data_key.algorithm (length keyblock.data_key.bytes)
+  pub range : keyblock.data_key.version ≤ 65535
+
+pub good_keyblock : {E : Type 0} (bytes : List ℕ) (signer : PackedKey) (stored : ℕ) (rollback : Bool) (old new : HookState) (result : Result (Result Keyblock KeyblockFault) E) (answer : Result Keyblock KeyblockFault) (keyblock : Keyblock)
+    → ChecksKeyblock bytes signer stored rollback old new result → result ≡ Ok answer → answer ≡ Ok keyblock → GoodKeyblock bytes signer stored rollback old new keyblock
+good_keyblock {E} bytes signer stored rollback old new result answer keyblock checks is is' =
+    let found : ChecksKeyblock {E = E} bytes signer stored rollback old new (Ok (Ok keyblock)) =
+    subst (λ (a : Result Keyblock KeyblockFault). ChecksKeyblock {E = E} bytes signer stored rollback old new (Ok a)) is' (subst (λ (r : Result (Result Keyblock KeyblockFault) E). ChecksKeyblock bytes signer stored rollback old new r) is checks) in
+    record {
+      asked = found.asked;
+      none = found.none;
+      parts = found.parts;
+      fits = found.fits;
+      signed = found.signed;
+      copy = found.copy;
+      known = data_key_known (view_question keyblock.data_key stored rollback) found.key;
+      range = data_key_range (view_question keyblock.data_key stored rollback) found.key;
+    }
+
+-- ---- the preamble
+
+pub record GoodPreamble (bytes : List ℕ) (key : PackedKey) (stored : ℕ) (rollback : Bool) (old new : HookState) (preamble : FwPreamble) : Type 0 where
+  pub asked : Asked old new false
+  pub none : IsTrue old.told → first_fault preamble_table (preamble_question bytes key stored rollback old) ≡ None
+  pub parts : preamble ≡ firmware_preamble_in bytes
+  pub fits : FwPreambleFits bytes preamble
+  pub signed : FwPreambleIsSigned preamble
+
+pub good_preamble : {E : Type 0} (bytes : List ℕ) (key : PackedKey) (stored : ℕ) (rollback : Bool) (old new : HookState) (result : Result (Result FwPreamble FwPreambleFault) E) (answer : Result FwPreamble FwPreambleFault) (preamble : FwPreamble)
+    → ChecksPreamble bytes key stored rollback old new result → result ≡ Ok answer → answer ≡ Ok preamble → GoodPreamble bytes key stored rollback old new preamble
+good_preamble {E} bytes key stored rollback old new result answer preamble checks is is' =
+    let found : ChecksPreamble {E = E} bytes key stored rollback old new (Ok (Ok preamble)) =
+    subst (λ (a : Result FwPreamble FwPreambleFault). ChecksPreamble {E = E} bytes key stored rollback old new (Ok a)) is' (subst (λ (r : Result (Result FwPreamble FwPreambleFault) E). ChecksPreamble bytes key stored rollback old new r) is checks) in
+    record {
+      asked = found.asked;
+      none = found.none;
+      parts = found.parts;
+      fits = found.fits;
+      signed = found.signed;
+    }
+
+-- ---- what is asked of the parts is asked of the slot
+
+-- a copy of the data key
+pub record Copied (key : Key) (packed : PackedKey) : Type 0 where
+  pub algorithm : packed.algorithm ≡ key.algorithm
+  pub version : packed.version ≡ key.version
+  pub size : packed.size ≡ length key.bytes
+  pub bytes : packed.bytes ≡ padded 2056 key.bytes
+  pub front : length key.bytes ≤ 2056 → take (length key.bytes) packed.bytes ≡ key.bytes
+
+pub copied_key : (key : Key) (packed : PackedKey) → Copied key packed → length key.bytes ≤ 2056 → key_of packed ≡ key
+copied_key key packed copied fits = λ i. record {
+  algorithm = copied.algorithm i;
+  version = copied.version i;
+  bytes = let same : take packed.size packed.bytes ≡ key.bytes = ap (λ (n : ℕ). take n packed.bytes) copied.size ∙ copied.front fits in same i;
+}
+
+pub copied_whole : (key : Key) (packed : PackedKey) → Copied key packed → packed ≡ copy_of key
+copied_whole key packed copied = λ i. record {
+  algorithm = copied.algorithm i;
+  version = copied.version i;
+  size = copied.size i;
+  bytes = copied.bytes i;
+}
+
+same_preamble : (a b : PreambleQuestion) → a.bytes ≡ b.bytes → a.rows ≡ b.rows → a.key ≡ b.key → a.stored ≡ b.stored → a.rollback ≡ b.rollback → a ≡ b
+same_preamble a b bytes rows key stored rollback = λ i. record { bytes = bytes i; rows = rows i; key = key i; stored = stored i; rollback = rollback i }
+
+-- What is known once the keyblock is good, of the bytes that were read.
+pub record Opened (q : SlotQuestion) (hook hook' : HookState) (keyblock : Keyblock) (packed : PackedKey) (rest : List ℕ) : Type 0 where
+  pub good : GoodKeyblock q.vblock q.root q.stored q.rollback hook hook' keyblock
+  pub rows : q.rows ≡ hook.rows
+  pub copied : Copied keyblock.data_key packed
+  pub behind : rest ≡ drop keyblock.size q.vblock
+
+pub opened_fits : (q : SlotQuestion) (hook hook' : HookState) (keyblock : Keyblock) (packed : PackedKey) (rest : List ℕ) → Opened q hook hook' keyblock packed rest → packed.size ≤ 2056
+opened_fits q hook hook' keyblock packed rest opened =
+    let fits : length keyblock.data_key.bytes ≤ 2056 = known_fits _ _ opened.good.known in
+    omega (arith, opened.copied.size, fits)
+
+opened_key : (q : SlotQuestion) (hook hook' : HookState) (keyblock : Keyblock) (packed : PackedKey) (rest : List ℕ) → Opened q hook hook' keyblock packed rest → key_of packed ≡ (slot_keyblock q).data_key
+opened_key q hook hook' keyblock packed rest opened =
+    copied_key keyblock.data_key packed opened.copied (known_fits _ _ opened.good.known) ∙ ap (λ (k : Keyblock). k.data_key) opened.good.parts
+
+opened_rest : (q : SlotQuestion) (hook hook' : HookState) (keyblock : Keyblock) (packed : PackedKey) (rest : List ℕ) → Opened q hook hook' keyblock packed rest → rest ≡ drop (slot_keyblock q).size q.vblock
+opened_rest q hook hook' keyblock packed rest opened = opened.behind ∙ ap (λ (k : Keyblock). drop k.size q.vblock) opened.good.parts
+
+pub preamble_asked : (q : SlotQuestion) (hook hook' : HookState) (keyblock : Keyblock) (packed : PackedKey) (rest : List ℕ) → Opened q hook hook' keyblock packed rest
+    → preamble_question rest packed q.stored q.rollback hook' ≡ asked_of_preamble q
+preamble_asked q hook hook' keyblock packed rest opened =
+    same_preamble (preamble_question rest packed q.stored q.rollback hook') (asked_of_preamble q)
+    (opened_rest q hook hook' keyblock packed rest opened) (opened.good.asked.rows ∙ sym opened.rows) (opened_key q hook hook' keyblock packed rest opened) refl refl
+
+same_body : (a b : BodyQuestion) → a.bytes ≡ b.bytes → a.most ≡ b.most → a.len ≡ b.len → a.key ≡ b.key → a.signature ≡ b.signature → a.signature_size ≡ b.signature_size → a.rows ≡ b.rows → a ≡ b
+same_body a b bytes most len key signature size rows = λ i. record { bytes = bytes i; most = most i; len = len i; key = key i; signature = signature i; signature_size = size i; rows = rows i }
+
+-- What is known once the preamble is good too. `flash` is the flash after the head was read.
+pub record Ready (q : SlotQuestion) (hook hook' hook'' : HookState) (keyblock : Keyblock) (packed : PackedKey) (rest : List ℕ) (preamble : FwPreamble) (main : Area) (flash : FlashState) : Type 0 where
+  pub opened : Opened q hook hook' keyblock packed rest
+  pub good : GoodPreamble rest packed q.stored q.rollback hook' hook'' preamble
+  pub area : q.main ≡ area_bytes main flash.medium
+
+pub ready_parts : (q : SlotQuestion) (hook hook' hook'' : HookState) (keyblock : Keyblock) (packed : PackedKey) (rest : List ℕ) (preamble : FwPreamble) (main : Area) (flash : FlashState) → Ready q hook hook' hook'' keyblock packed rest preamble main flash
+    → preamble ≡ slot_preamble q
+ready_parts q hook hook' hook'' keyblock packed rest preamble main flash ready = ready.good.parts ∙ ap firmware_preamble_in (opened_rest q hook hook' keyblock packed rest ready.opened)
+
+-- what is asked of the body is asked of the slot
+pub body_asked : (q : SlotQuestion) (hook hook' hook'' : HookState) (keyblock : Keyblock) (packed : PackedKey) (rest : List ℕ) (preamble : FwPreamble) (main : Area) (flash : FlashState) (signature : List ℕ) (len : ℕ)
+    → Ready q hook hook' hook'' keyblock packed rest preamble main flash → length (area_bytes main flash.medium) ≡ main.size → signature ≡ preamble.body_signature → len ≡ preamble.body_len
+    → body_question packed signature main len flash hook'' ≡ asked_of_body q
+body_asked q hook hook' hook'' keyblock packed rest preamble main flash signature len ready long is_signature is_len =
+    let parts = ready_parts q hook hook' hook'' keyblock packed rest preamble main flash ready in
+    same_body (body_question packed signature main len flash hook'') (asked_of_body q)
+    (sym ready.area)
+    (sym long ∙ ap (λ (xs : List ℕ). length xs) (sym ready.area))
+    (is_len ∙ ap (λ (p : FwPreamble). p.body_len) parts)
+    (opened_key q hook hook' keyblock packed rest ready.opened)
+    (is_signature ∙ ap (λ (p : FwPreamble). p.body_signature) parts)
+    (ap (λ (xs : List ℕ). length xs) is_signature ∙ ready.good.fits.body_signature_length ∙ ap (λ (xs : List ℕ). (body_signature_of xs).size) (opened_rest q hook hook' keyblock packed rest ready.opened))
+    (ready.good.asked.rows ∙ ready.opened.good.asked.rows ∙ sym ready.opened.rows)
+
+-- the parts of a slot
+pub parts_of : (q : SlotQuestion) (hook hook' hook'' : HookState) (keyblock : Keyblock) (packed : PackedKey) (rest : List ℕ) (preamble : FwPreamble) (main : Area) (flash : FlashState)
+    → Ready q hook hook' hook'' keyblock packed rest preamble main flash → Parts q
+parts_of q hook hook' hook'' keyblock packed rest preamble main flash ready =
+    let opened = ready.opened in
+    let keyblock_is = opened.good.parts in
+    let behind = opened_rest q hook hook' keyblock packed rest opened in
+    let preamble_is = ready_parts q hook hook' hook'' keyblock packed rest preamble main flash ready in
+    record {
+      root = opened.good.copy;
+      keyblock_fits = subst (KeyblockFits seals.Signature q.vblock) keyblock_is opened.good.fits;
+      keyblock_signed = subst KeyblockIsSigned keyblock_is opened.good.signed;
+      key = subst (λ (k : Keyblock). Known k.data_key.algorithm (length k.data_key.bytes)) keyblock_is opened.good.known;
+      preamble_fits = subst (FwPreambleFits (asked_of_preamble q).bytes) preamble_is (subst (λ (b : List ℕ). FwPreambleFits b preamble) behind ready.good.fits);
+      preamble_signed = subst FwPreambleIsSigned preamble_is ready.good.signed;
+    }
+
+-- keyblock and preamble show no fault
+pub no_keyblock_fault : (q : SlotQuestion) (hook hook' : HookState) (keyblock : Keyblock) (packed : PackedKey) (rest : List ℕ) → Opened q hook hook' keyblock packed rest → IsTrue hook.told
+    → first_fault keyblock_table (asked_of_keyblock q) ≡ None
+no_keyblock_fault q hook hook' keyblock packed rest opened told =
+    ap (λ (rows : List HookRow). let asked : KeyblockQuestion = record { bytes = q.vblock; rows = rows; signer = q.root; stored = q.stored; rollback = q.rollback } in first_fault keyblock_table asked) opened.rows
+    ∙ opened.good.none told
+
+pub preamble_found : (q : SlotQuestion) (hook hook' : HookState) (keyblock : Keyblock) (packed : PackedKey) (rest : List ℕ) (found : Option FwPreambleFault) → Opened q hook hook' keyblock packed rest
+    → first_fault preamble_table (preamble_question rest packed q.stored q.rollback hook') ≡ found → first_fault preamble_table (asked_of_preamble q) ≡ found
+preamble_found q hook hook' keyblock packed rest found opened e =
+    ap (first_fault preamble_table) (sym (preamble_asked q hook hook' keyblock packed rest opened)) ∙ e

@@ -1,0 +1,149 @@
+-- The table of a slot, and the chain of its signatures.
+use Rattle.std.proofs.Common.{◌≡◌, ℕ, Bool, true, false, not, Some, None, List, ◌++◌, length, take, refl, ◌∙◌, ◌==◌}
+use Rattle.std.specs.Prelude.{Any}
+use Rattle.wire_core.specs.FirstFault.{Table, first_fault}
+use Rattle.wire_core.proofs.FirstFault.{first_fault-append, first_fault-append_some, first_fault-none}
+use Rattle.board_core.specs.Hook.{IsRowOf}
+use Rattle.board_core.specs.declared.hook_row.HookRow.{HookRow}
+use Rattle.key_core.specs.Algorithms.{signature_length}
+use Rattle.key_core.specs.Parts.{Key}
+use Rattle.key_core.specs.Keyblocks.{keyblock_lines, KeyblockFits, KeyblockIsSigned}
+use Rattle.key_core.specs.declared.keyblock.Seal.TheVariants as seals
+use Rattle.key_core.specs.declared.fault.KeyblockFault.{KeyblockFault}
+use Rattle.preamble_core.specs.Firmware.{firmware_lines, FwPreambleFits, FwPreambleIsSigned}
+use Rattle.preamble_core.specs.declared.fault.FwPreambleFault.{FwPreambleFault}
+use Rattle.chain_core.specs.Hashing.{message_digest}
+use Rattle.chain_core.specs.Accepted.{Accepts, key_of, is_enrolled}
+use Rattle.chain_core.specs.Tables.{lifted, KeyblockQuestion, keyblock_of, keyblock_table, signer_lines, signer_question, seal_lines, data_key_lines, data_key_question, PreambleQuestion, preamble_of, further_preamble_lines, preamble_table, BodyQuestion, body_table}
+use Rattle.chain_core.specs.Slot.{SlotQuestion, slot_keyblock, slot_preamble, asked_of_keyblock, asked_of_preamble, asked_of_body, slot_table, slot_fault, FirmwareChain}
+use Rattle.chain_core.specs.declared.fault.BodyFault.{BodyFault}
+use Rattle.chain_core.specs.declared.slot_fault.SlotFault.{SlotFault}
+use Rattle.chain_core.specs.declared.slot_fault.SlotFault.TheVariants as slot_faults
+use Rattle.chain_core.proofs.Keys.{Known, signer_known}
+use Rattle.chain_core.proofs.Lifted.{lifted-none, lifted-some, lifted-back, append-none, is_equal}
+use Rattle.chain_core.proofs.Rows.{is_enrolled-Decides}
+
+-- ---- the table of a slot
+
+abbrev keyblock_part : Table SlotQuestion SlotFault
+keyblock_part = lifted asked_of_keyblock slot_faults.Keyblock keyblock_table
+
+abbrev preamble_part : Table SlotQuestion SlotFault
+preamble_part = lifted asked_of_preamble slot_faults.Preamble preamble_table
+
+abbrev body_part : Table SlotQuestion SlotFault
+body_part = lifted asked_of_body slot_faults.Body body_table
+
+pub at_keyblock : (q : SlotQuestion) (fault : KeyblockFault) → first_fault keyblock_table (asked_of_keyblock q) ≡ Some fault → slot_fault q ≡ Some (slot_faults.Keyblock fault)
+unfolding slot_table
+at_keyblock q fault e = first_fault-append_some keyblock_part (preamble_part ++ body_part) q (slot_faults.Keyblock fault) (lifted-some asked_of_keyblock slot_faults.Keyblock keyblock_table q fault e)
+
+behind : (q : SlotQuestion) → first_fault keyblock_table (asked_of_keyblock q) ≡ None → slot_fault q ≡ first_fault (preamble_part ++ body_part) q
+unfolding slot_table
+behind q none = first_fault-append keyblock_part (preamble_part ++ body_part) q (lifted-none asked_of_keyblock slot_faults.Keyblock keyblock_table q none)
+
+pub at_preamble : (q : SlotQuestion) (fault : FwPreambleFault) → first_fault keyblock_table (asked_of_keyblock q) ≡ None → first_fault preamble_table (asked_of_preamble q) ≡ Some fault → slot_fault q ≡ Some (slot_faults.Preamble fault)
+at_preamble q fault none e = behind q none ∙ first_fault-append_some preamble_part body_part q (slot_faults.Preamble fault) (lifted-some asked_of_preamble slot_faults.Preamble preamble_table q fault e)
+
+last_part : (q : SlotQuestion) → first_fault keyblock_table (asked_of_keyblock q) ≡ None → first_fault preamble_table (asked_of_preamble q) ≡ None → slot_fault q ≡ first_fault body_part q
+last_part q none none' = behind q none ∙ first_fault-append preamble_part body_part q (lifted-none asked_of_preamble slot_faults.Preamble preamble_table q none')
+
+pub at_body : (q : SlotQuestion) (fault : BodyFault) → first_fault keyblock_table (asked_of_keyblock q) ≡ None → first_fault preamble_table (asked_of_preamble q) ≡ None → first_fault body_table (asked_of_body q) ≡ Some fault → slot_fault q ≡ Some (slot_faults.Body fault)
+at_body q fault none none' e = last_part q none none' ∙ lifted-some asked_of_body slot_faults.Body body_table q fault e
+
+pub nowhere : (q : SlotQuestion) → first_fault keyblock_table (asked_of_keyblock q) ≡ None → first_fault preamble_table (asked_of_preamble q) ≡ None → first_fault body_table (asked_of_body q) ≡ None → slot_fault q ≡ None
+nowhere q none none' none'' = last_part q none none' ∙ lifted-none asked_of_body slot_faults.Body body_table q none''
+
+-- ---- the chain
+
+is_yes : (b : Bool) → not b ≡ false → b ≡ true
+is_yes true e = refl
+is_yes false e = absurd cc
+
+enrolled_row : (rows : List HookRow) (key : Key) (message signature : List ℕ) → not (is_enrolled rows key message signature) ≡ false → Any (IsRowOf key.algorithm key.bytes (message_digest key.algorithm message) signature) rows
+enrolled_row rows key message signature e = (is_enrolled-Decides rows key message signature).0 (is_yes (is_enrolled rows key message signature) e)
+
+-- the lines after the views' own
+further_keyblock : (q : KeyblockQuestion) → first_fault keyblock_table q ≡ None → (first_fault signer_lines (signer_question q) ≡ None) × (first_fault seal_lines q ≡ None)
+unfolding keyblock_table
+further_keyblock q e =
+    let same : KeyblockFault → KeyblockFault = λ fault. fault in
+    let signer = lifted signer_question same signer_lines in
+    let key = lifted data_key_question same data_key_lines in
+    let bytes : KeyblockQuestion → List ℕ = λ q. q.bytes in
+    let rest = append-none (lifted bytes same (keyblock_lines seals.Signature)) (signer ++ (seal_lines ++ key)) q e in
+    let later = append-none signer (seal_lines ++ key) q rest.1 in
+    (lifted-back signer_question same signer_lines q later.0, (append-none seal_lines key q later.1).0)
+
+pub accepts_keyblock : (q : KeyblockQuestion) → first_fault keyblock_table q ≡ None → length (key_of q.signer).bytes ≡ q.signer.size → KeyblockFits seals.Signature q.bytes (keyblock_of q)
+    → Accepts q.rows (key_of q.signer) (keyblock_of q).seal_bytes (keyblock_of q).signed
+accepts_keyblock q e room fits =
+    let further = further_keyblock q e in
+    let known = signer_known (signer_question q) further.0 in
+    let seal = first_fault-none seal_lines q further.1 in
+    record {
+      algorithm = known.algorithm_known;
+      not_sha1 = known.not_sha1;
+      key_size = room ∙ known.size_is;
+      signature_size = fits.seal_length ∙ is_equal _ _ seal.0;
+      row = enrolled_row q.rows (key_of q.signer) (keyblock_of q).signed (keyblock_of q).seal_bytes seal.1.0;
+    }
+
+further_preamble : (q : PreambleQuestion) → first_fault preamble_table q ≡ None → first_fault further_preamble_lines q ≡ None
+unfolding preamble_table
+further_preamble q e =
+    let same : FwPreambleFault → FwPreambleFault = λ fault. fault in
+    let bytes : PreambleQuestion → List ℕ = λ q. q.bytes in
+    (append-none (lifted bytes same firmware_lines) further_preamble_lines q e).1
+
+pub accepts_preamble : (q : PreambleQuestion) → first_fault preamble_table q ≡ None → Known q.key.algorithm (length q.key.bytes) → FwPreambleFits q.bytes (preamble_of q)
+    → Accepts q.rows q.key (preamble_of q).signature (preamble_of q).signed
+accepts_preamble q e known fits =
+    let further = first_fault-none further_preamble_lines q (further_preamble q e) in
+    record {
+      algorithm = known.algorithm_known;
+      not_sha1 = known.not_sha1;
+      key_size = known.size_is;
+      signature_size = fits.signature_length ∙ is_equal _ _ further.0;
+      row = enrolled_row q.rows q.key (preamble_of q).signed (preamble_of q).signature further.1.0;
+    }
+
+body_signed : (q : BodyQuestion) → first_fault body_table q ≡ None → (not (q.signature_size == signature_length q.key.algorithm) ≡ false) × (not (is_enrolled q.rows q.key (take q.len q.bytes) q.signature) ≡ false)
+unfolding body_table
+body_signed q e = let none = first_fault-none body_table q e in (none.1.1.0, none.1.1.1.0)
+
+pub accepts_body : (q : BodyQuestion) → first_fault body_table q ≡ None → Known q.key.algorithm (length q.key.bytes) → length q.signature ≡ q.signature_size
+    → Accepts q.rows q.key q.signature (take q.len q.bytes)
+accepts_body q e known long =
+    let signed = body_signed q e in
+    record {
+      algorithm = known.algorithm_known;
+      not_sha1 = known.not_sha1;
+      key_size = known.size_is;
+      signature_size = long ∙ is_equal q.signature_size (signature_length q.key.algorithm) signed.0;
+      row = enrolled_row q.rows q.key (take q.len q.bytes) q.signature signed.1;
+    }
+
+-- What the checks of the parts found.
+pub record Found (q : SlotQuestion) : Type 0 where
+  pub keyblock : first_fault keyblock_table (asked_of_keyblock q) ≡ None
+  pub preamble : first_fault preamble_table (asked_of_preamble q) ≡ None
+  pub body : first_fault body_table (asked_of_body q) ≡ None
+
+-- And what holds of the parts, told or not.
+pub record Parts (q : SlotQuestion) : Type 0 where
+  pub root : length (key_of q.root).bytes ≡ q.root.size
+  pub keyblock_fits : KeyblockFits seals.Signature q.vblock (slot_keyblock q)
+  pub keyblock_signed : KeyblockIsSigned (slot_keyblock q)
+  pub key : Known (slot_keyblock q).data_key.algorithm (length (slot_keyblock q).data_key.bytes)
+  pub preamble_fits : FwPreambleFits (asked_of_preamble q).bytes (slot_preamble q)
+  pub preamble_signed : FwPreambleIsSigned (slot_preamble q)
+
+pub chain_of : (q : SlotQuestion) → Parts q → Found q → FirmwareChain q
+chain_of q parts found = record {
+  keyblock = accepts_keyblock (asked_of_keyblock q) found.keyblock parts.root parts.keyblock_fits;
+  keyblock_signed = parts.keyblock_signed;
+  preamble = accepts_preamble (asked_of_preamble q) found.preamble parts.key parts.preamble_fits;
+  preamble_signed = parts.preamble_signed;
+  body = accepts_body (asked_of_body q) found.body parts.key parts.preamble_fits.body_signature_length;
+}

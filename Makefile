@@ -20,9 +20,9 @@ boot: program
 	run boot && echo 'after the second:' && { $(NVDATA); $(SPACES); }
 
 # The program is linked only where it is proved, and so is each crate that it stands on: the first build takes minutes, and a
-# line tells each crate that is proved. Words that are no command make no file.
+# line tells each crate that was checked. Words that are no command make no file.
 program:
-	rt all check --jobs $$(nproc) 2>&1 | sed -un 's/^\([a-z_]*\): ok$$/proved: \1/p;s/^== .*/&/p'
+	rt all check --jobs $$(nproc) 2>&1 | sed -un 's/^crate \([a-z_]*\): modules.*/checked: \1/p;s/^== .*/&/p'
 	cd crates/vboot_tool && rt run -- words that are no command 2>&1 | tail -n 1 | grep -qx usage
 
 test:

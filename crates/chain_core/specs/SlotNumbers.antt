@@ -1,6 +1,4 @@
--- The numbers that a slot's fault is reported by.
--- Source: `enum vb2_nv_recovery` of vboot_reference (firmware/2lib/include/2recovery_reasons.h); the subcodes are the lines of
--- this project's own tables.
+-- The numbers that a slot's fault is reported by. They are this project's own; a subcode is the line of the fault in its table.
 use Rattle.std.specs.Prelude.{ℕ}
 use Rattle.key_core.specs.declared.fault.KeyblockFault.{KeyblockFault}
 use Rattle.key_core.specs.declared.fault.KeyblockFault.TheVariants as keyblock

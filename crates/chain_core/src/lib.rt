@@ -26,4 +26,6 @@ pub use slot::verify_slot;
 pub use slot_fault::{SlotFault, SlotOk};
 
 #[cfg(test)]
+mod machine_tests;
+#[cfg(test)]
 mod tests;

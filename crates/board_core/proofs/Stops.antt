@@ -1,6 +1,6 @@
 -- How a call moves a stop and the other counters, and how the relations on counters compose. A function that makes
 -- several calls proves its own clause on counters by these laws.
-use Rattle.std.proofs.Common.{◌≡◌, ℕ, ◌+◌, ◌-◌, ◌≤◌, ◌<◌, Bool, true, false, refl, sym, ap, subst, arith, ◌∙◌}
+use Rattle.std.proofs.Common.{◌≡◌, ℕ, ◌+◌, ◌-◌, ◌≤◌, ◌<◌, Bool, true, false, IsTrue, refl, sym, ap, subst, arith, ◌∙◌}
 use Rattle.std.specs.Prelude.{if◌then◌else◌, nat_le}
 use Rattle.std.proofs.lemmas.Bool.{false≢true}
 use Rattle.board_core.specs.declared.counters.Counters.{Counters}
@@ -22,6 +22,11 @@ moved_failed Unarmed = tt
 moved_failed Dead = tt
 moved_failed (Armed left keep) = grind arith
 
+-- a count that one call raised or left is larger by one at most
+few_more : (a b : ℕ) (failed : Bool) → (IsTrue failed → b ≡ raised a) → (failed ≡ false → b ≡ a) → b ≤ a + 1
+few_more a b true once none = let raise = once refl in omega arith
+few_more a b false once none = let same = none refl in omega arith
+
 -- a call that passes on, with its answer counted
 pub changed_pass : (old new : Counters) (failed : Bool) → turn_of old.stop ≡ Pass → CountedChange (record old { stop = stop_after old.stop }) new failed → Changed old new failed
 changed_pass old new failed turn counted = record {
@@ -30,6 +35,7 @@ changed_pass old new failed turn counted = record {
     cause = counted.cause;
     no_fault = counted.no_fault;
     more_failed = counted.more_failed;
+    few_failed = few_more old.failed_changes new.failed_changes failed counted.broke counted.none_failed;
     none_failed = counted.none_failed;
     stop = rw counted.stop (moved_pass old.stop failed turn);
     settings = counted.settings;
@@ -45,6 +51,7 @@ changed_failed old new counted = record {
     cause = counted.cause;
     no_fault = counted.no_fault;
     more_failed = counted.more_failed;
+    few_failed = few_more old.failed_changes new.failed_changes true counted.broke counted.none_failed;
     none_failed = counted.none_failed;
     stop = rw counted.stop (moved_failed old.stop);
     settings = counted.settings;
@@ -127,6 +134,7 @@ made_none a = record {
   cause = λ f. absurd (false≢true f);
   no_fault = λ f. refl;
   more_failed = omega arith;
+  few_failed = omega arith;
   none_failed = λ f. refl;
   stop = moved_none a.stop;
   settings = refl;
@@ -139,6 +147,7 @@ made_observed a b c n failed h k = record {
   cause = λ f. k.cause f ∙ ap raised (h.no_fault refl);
   no_fault = λ f. k.no_fault f ∙ h.no_fault refl;
   more_failed = omega (arith, h.more_failed, k.failed_changes);
+  few_failed = omega (arith, h.none_failed refl, k.failed_changes);
   none_failed = λ f. k.failed_changes ∙ h.none_failed refl;
   stop = rw k.stop (moved_failed_too a.stop b.stop n failed h.stop);
   settings = k.settings ∙ h.settings;
@@ -151,6 +160,7 @@ made_then a b c n m failed h k = record {
   cause = λ f. k.cause f ∙ ap raised (h.no_fault refl);
   no_fault = λ f. k.no_fault f ∙ h.no_fault refl;
   more_failed = omega (arith, h.more_failed, k.more_failed);
+  few_failed = omega (arith, h.none_failed refl, k.few_failed);
   none_failed = λ f. k.none_failed f ∙ h.none_failed refl;
   stop = moved_then a.stop b.stop c.stop n m failed h.stop k.stop;
   settings = k.settings ∙ h.settings;
@@ -176,11 +186,12 @@ plain_changed f n f' n' fl fr nl nr = record {
     cause = λ t. fr;
     no_fault = λ t. absurd (false≢true (sym t));
     more_failed = nl;
+    few_failed = omega arith;
     none_failed = λ t. absurd (false≢true (sym t));
     stop = tt;
     settings = refl;
   };
-  broke = λ t. omega arith;
+  broke = λ t. nr;
 }
 
 -- the effect of a call that changes nothing

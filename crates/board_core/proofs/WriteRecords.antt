@@ -16,6 +16,7 @@ made_within a b k n within made = record {
   cause = made.cause;
   no_fault = λ t. absurd (false≢true (sym t));
   more_failed = made.more_failed;
+  few_failed = made.few_failed;
   none_failed = made.none_failed;
   stop = moved_weaker a.stop b.stop k n true within made.stop;
   settings = made.settings;

@@ -63,7 +63,9 @@ pub record MadeChanges (old new : Counters) (n : ℕ) (failed : Bool) : Type 0 w
   pub no_fault : failed ≡ false → new.faults ≡ old.faults
   -- the number of failed changes does not fall
   pub more_failed : old.failed_changes ≤ new.failed_changes
-  -- and stays where no call failed
+  -- it rises by one at most, since the run ends at the first failure
+  pub few_failed : new.failed_changes ≤ old.failed_changes + 1
+  -- and it stays where no call failed
   pub none_failed : failed ≡ false → new.failed_changes ≡ old.failed_changes
   pub stop : Moved old.stop new.stop n failed
   pub settings : new.settings ≡ old.settings
@@ -81,8 +83,8 @@ pub record MadeStep (old new : Counters) (n : ℕ) (cut failed : Bool) : Type 0 
 -- One changing call.
 pub record Changed (old new : Counters) (failed : Bool) : Type 0 where
   pub made : MadeChanges old new 1 failed
-  -- a changing call that failed is counted as a failed change
-  pub broke : IsTrue failed → Rose old.failed_changes new.failed_changes
+  -- a changing call that failed is counted once as a failed change
+  pub broke : IsTrue failed → new.failed_changes ≡ raised old.failed_changes
 
 -- The answer of a changing call was counted, after the stop was moved.
 pub record CountedChange (old new : Counters) (failed : Bool) : Type 0 where
@@ -91,7 +93,7 @@ pub record CountedChange (old new : Counters) (failed : Bool) : Type 0 where
   pub no_fault : failed ≡ false → new.faults ≡ old.faults
   pub more_failed : old.failed_changes ≤ new.failed_changes
   pub none_failed : failed ≡ false → new.failed_changes ≡ old.failed_changes
-  pub broke : IsTrue failed → Rose old.failed_changes new.failed_changes
+  pub broke : IsTrue failed → new.failed_changes ≡ raised old.failed_changes
   pub stop : new.stop ≡ old.stop
   pub settings : new.settings ≡ old.settings
 

@@ -1,6 +1,6 @@
 -- What a fuse over a disk is, and what it makes of each call. The state of the disk below is its ghost member, which the
 -- type of the fuse has.
-use Rattle.std.specs.Prelude.{◌≡◌, ◌⊎◌, List, ℕ, ◌/◌, length, IsErr, OnOk, OnErr, Result}
+use Rattle.std.specs.Prelude.{◌≡◌, List, ℕ, ◌/◌, length, IsErr, OnOk, OnErr, Result}
 use Rattle.board_core.specs.declared.device.Failed.{Failed}
 use Rattle.board_core.specs.declared.counters.FuseState.{FuseState}
 use Rattle.board_core.specs.declared.counters.FuseState.TheVariants.{Unarmed, Armed, Dead}
@@ -9,7 +9,7 @@ use Rattle.board_core.specs.declared.disk.Disk.{Ghosts}
 use Rattle.board_core.specs.declared.fuse_disk.FuseDisk.{FuseDisk}
 use Rattle.board_core.specs.Counters.{turn_of, stop_after}
 use Rattle.board_core.specs.Disk.{DiskState, ReadsDisk, WritesDisk, Flushes, advanced}
-use Rattle.board_core.specs.FuseDiskParts.{with_disk_log, CutsDiskWrite, CutsFlush, FailsAtRead, WritesAfterRead}
+use Rattle.board_core.specs.FuseDiskParts.{with_disk_log, CutsDiskWrite, CutsFlush, ReadsThenWrites}
 
 -- the state of the disk below
 abbrev pub state_below : {D : Type 0} {disk : Ghosts D} → FuseDisk D disk → DiskState
@@ -45,7 +45,7 @@ pub record FuseReadsDisk {D : Type 0} {disk : Ghosts D} (lba : ℕ) (buf : List 
 abbrev pub PassesWrite : {D : Type 0} {disk : Ghosts D} → FuseState → ℕ → List ℕ → FuseDisk D disk → FuseDisk D disk → Result Unit Failed → Type 0
 PassesWrite Unarmed lba meant old new result = WritesDisk lba meant (state_below old) (state_below new) result
 PassesWrite (Armed left keep) lba meant old new result =
-    FailsAtRead lba meant (state_below old) (state_below new) result ⊎ WritesAfterRead lba meant (state_below old) (state_below new) result
+    ReadsThenWrites lba meant (state_below old) (state_below new) result
 PassesWrite Dead lba meant old new result = ⊥
 
 -- A write, on a fuse.

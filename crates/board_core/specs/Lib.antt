@@ -13,5 +13,4 @@ pub mod FuseDisk
 pub mod FuseDiskParts
 pub mod Fault
 pub mod World
-pub mod Renewal
 pub mod OrderedWrites

@@ -54,8 +54,8 @@ pub trait Disk {
     ghost armed: { (disk : Self) (left keep : ℕ) → (state disk).counters.stop ≡ Armed left keep → 1 ≤ left };
 
     /// The bytes that are told are those of the sectors.
-    ghost told_size: { (disk : Self) → IsTrue (state disk).medium.told → length (state disk).medium.bytes ≡ (state disk).medium.sectors * 512 };
+    ghost told_size: { (d : Self) → IsTrue (state d).medium.told → length (state d).medium.bytes ≡ (state d).medium.sectors * 512 };
 
     /// The pending writes that are told are as many as the pending sectors.
-    ghost told_pending: { (disk : Self) → IsTrue (state disk).medium.told → length (state disk).medium.writes ≡ (state disk).medium.pending };
+    ghost told_pending: { (d : Self) → IsTrue (state d).medium.told → length (state d).medium.writes ≡ (state d).medium.pending };
 }

@@ -2,8 +2,8 @@
 ghost use Rattle.std.specs.Prelude.{◌≡◌, ◌+◌, ◌*◌, ◌%◌, ◌<◌, ◌≤◌, ◌↔◌, [], length, min, IsTrue, IsOk, OnOk, OnErr, vec_len, vec_capacity};
 ghost use Rattle.board_core.specs.declared.counters.FuseState.TheVariants.{Dead};
 ghost use Rattle.board_core.specs.Counters.{armed_counters, revived_counters, plain_counters};
-ghost use Rattle.board_core.specs.Flash.{Reads, Programs, Erases, LeftTorn, erased_page, IsErased};
-ghost use Rattle.board_core.specs.Fuse.{fuse_state, with_log, CutsProgram, FuseReads, FusePrograms, FuseErases, CutsErase};
+ghost use Rattle.board_core.specs.Flash.{Reads, Programs, Erases, erased_page, IsErased};
+ghost use Rattle.board_core.specs.Fuse.{fuse_state, Tears, CutsProgram, FuseReads, FusePrograms, FuseErases, CutsErase};
 
 use crate::counters::{Counters, FuseState, Turn, raise};
 use crate::device::Failed;
@@ -112,7 +112,7 @@ fn cut_program<F: Flash>(
     requires left { length left.old ≡ length bytes.now }
     ensures size { (F.state inner.new).medium.size ≡ (F.state inner.old).medium.size }
     ensures told { (F.state inner.new).medium.told ≡ (F.state inner.old).medium.told }
-    ensures left_torn { IsTrue (F.state inner.old).medium.told → LeftTorn at bytes.now (with_log (F.state inner.old).medium torn.old.items) (with_log (F.state inner.new).medium torn.new.items) }
+    ensures left_torn { Tears at bytes.now (F.state inner.old) (F.state inner.new) torn.old.items torn.new.items }
     ensures cut { CutsProgram keep at bytes.now (F.state inner.old) (F.state inner.new) torn.old.items torn.new.items }
 {
     if inner.read(at, was).is_err() {
@@ -137,7 +137,7 @@ fn cut_erase<F: Flash>(inner: &mut F, torn: &mut Vec<Torn>, page: u32, keep: u32
     requires room { vec_len torn.old + 8 ≤ vec_capacity torn.old }
     ensures size { (F.state inner.new).medium.size ≡ (F.state inner.old).medium.size }
     ensures told { (F.state inner.new).medium.told ≡ (F.state inner.old).medium.told }
-    ensures left_torn { IsTrue (F.state inner.old).medium.told → LeftTorn (page * 4096) erased_page (with_log (F.state inner.old).medium torn.old.items) (with_log (F.state inner.new).medium torn.new.items) }
+    ensures left_torn { Tears (page * 4096) erased_page (F.state inner.old) (F.state inner.new) torn.old.items torn.new.items }
     ensures cut { CutsErase keep page (F.state inner.old) (F.state inner.new) torn.old.items torn.new.items }
 {
     let _size = inner.size();

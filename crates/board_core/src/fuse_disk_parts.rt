@@ -1,8 +1,8 @@
 // The parts of the calls of a fuse over a disk, over the disk below, the fuse's log and its list of the pending writes.
-ghost use Rattle.std.specs.Prelude.{◌≡◌, ◌+◌, ◌*◌, ◌/◌, ◌%◌, ◌≤◌, [], length, IsTrue, OnOk, OnErr, IsErr, ◌⊎◌, vec_len, vec_capacity};
-ghost use Rattle.board_core.specs.Counters.{Rose};
-ghost use Rattle.board_core.specs.Disk.{ReadsDisk, Flushes, LeftDiskTorn, write_records};
-ghost use Rattle.board_core.specs.FuseDiskParts.{with_disk_log, Mirrors, WritesContent, FailsAtRead, WritesAfterRead, WroteFront, CutsDiskWrite, CutsFlush};
+ghost use Rattle.std.specs.Prelude.{◌≡◌, ◌+◌, ◌*◌, ◌/◌, ◌%◌, ◌≤◌, [], length, IsTrue, OnOk, OnErr, is_err, vec_len, vec_capacity};
+ghost use Rattle.board_core.specs.Disk.{ReadsDisk, Flushes};
+ghost use Rattle.board_core.specs.FuseDiskParts.{Mirrors, WritesContent, ReadsThenWrites, FrontLasts, FrontTorn, WritesFront, TearsFlush};
+ghost use Rattle.board_core.specs.FuseDiskParts.{TearsWrite, CutsDiskWrite, CutsFlush};
 
 use crate::device::Failed;
 use crate::disk::Disk;
@@ -48,7 +48,7 @@ pub fn settle<D: Disk>(inner: &mut D, torn: &mut Vec<Torn>, writes: &mut Vec<Tor
     ensures sectors { (D.state inner.new).medium.sectors ≡ (D.state inner.old).medium.sectors }
     ensures told { (D.state inner.new).medium.told ≡ (D.state inner.old).medium.told }
     ensures none_pending { (D.state inner.new).medium.pending ≡ 0 }
-    ensures left_torn { IsTrue (D.state inner.old).medium.told → LeftDiskTorn (D.state inner.old).medium.writes [] (with_disk_log (D.state inner.old).medium torn.old.items) (with_disk_log (D.state inner.new).medium torn.new.items) }
+    ensures left_torn { TearsFlush (D.state inner.old) (D.state inner.new) torn.old.items torn.new.items }
     ensures cut { CutsFlush (D.state inner.old) (D.state inner.new) torn.old.items torn.new.items }
 {
     if inner.flush().is_err() {
@@ -76,7 +76,7 @@ pub fn write_after_read<D: Disk>(
     ensures mirrors { Mirrors (D.state inner.new).medium writes.new.items }
     ensures held { 64 ≤ vec_capacity writes.new }
     ensures content { WritesContent lba bytes.now (D.state inner.old).medium (D.state inner.new).medium result }
-    ensures fused { FailsAtRead lba bytes.now (D.state inner.old) (D.state inner.new) result ⊎ WritesAfterRead lba bytes.now (D.state inner.old) (D.state inner.new) result }
+    ensures fused { ReadsThenWrites lba bytes.now (D.state inner.old) (D.state inner.new) result }
 {
     let _sectors = inner.sectors();
     let answer = read_below(inner, writes, lba, was);
@@ -101,10 +101,9 @@ fn write_and_flush<D: Disk>(inner: &mut D, lba: u64, front: &[u8]) -> Result<(),
     ensures sectors { (D.state inner.new).medium.sectors ≡ (D.state inner.old).medium.sectors }
     ensures told { (D.state inner.new).medium.told ≡ (D.state inner.old).medium.told }
     ensures none_pending { (D.state inner.new).medium.pending ≡ 0 }
-    ensures later { (D.state inner.old).counters.faults ≤ (D.state inner.new).counters.faults }
-    ensures cause { IsErr result → Rose (D.state inner.old).counters.faults (D.state inner.new).counters.faults }
-    ensures ok { IsTrue (D.state inner.old).medium.told → OnOk result (WroteFront lba front.now (D.state inner.old).medium (D.state inner.new).medium) }
-    ensures err { IsTrue (D.state inner.old).medium.told → OnErr result (LeftDiskTorn (D.state inner.old).medium.writes (write_records lba front.now (D.state inner.old).medium) (D.state inner.old).medium (D.state inner.new).medium) }
+    ensures ok { FrontLasts lba front.now (D.state inner.old).medium (D.state inner.new).medium result }
+    ensures err { FrontTorn lba front.now (D.state inner.old).medium (D.state inner.new).medium result }
+    ensures calls { WritesFront lba front.now (D.state inner.old) (D.state inner.new) (is_err result) }
 {
     if front.is_empty() {
         return inner.flush();
@@ -137,7 +136,7 @@ pub fn cut_write<D: Disk>(
     ensures sectors { (D.state inner.new).medium.sectors ≡ (D.state inner.old).medium.sectors }
     ensures told { (D.state inner.new).medium.told ≡ (D.state inner.old).medium.told }
     ensures none_pending { (D.state inner.new).medium.pending ≡ 0 }
-    ensures left_torn { IsTrue (D.state inner.old).medium.told → LeftDiskTorn (D.state inner.old).medium.writes (write_records lba bytes.now (D.state inner.old).medium) (with_disk_log (D.state inner.old).medium torn.old.items) (with_disk_log (D.state inner.new).medium torn.new.items) }
+    ensures left_torn { TearsWrite lba bytes.now (D.state inner.old) (D.state inner.new) torn.old.items torn.new.items }
     ensures cut { CutsDiskWrite keep lba bytes.now (D.state inner.old) (D.state inner.new) torn.old.items torn.new.items }
 {
     let _sectors = inner.sectors();

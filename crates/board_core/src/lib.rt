@@ -7,7 +7,6 @@
 //!   `fuse_disk_calls` one over a disk: a struct and its calls. `fuse_disk_parts` has the parts of the calls of the last.
 //! - `hook_row` is a row of a hook, and `hook_rows` looks one up in a list.
 //! - `device` has the names of the devices, and `platform` a board of them.
-//! - `renewal` is an example of a caller over a board, and `ordered_writes` one over a disk, in tests alone.
 #![tactic(auto)]
 
 mod counters;
@@ -26,11 +25,7 @@ mod fuse_tpm_calls;
 mod hook;
 mod hook_row;
 mod hook_rows;
-#[cfg(test)]
-mod ordered_writes;
 mod platform;
-#[cfg(test)]
-mod renewal;
 mod streams;
 mod torn;
 mod tpm;

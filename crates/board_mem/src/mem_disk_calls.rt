@@ -1,5 +1,6 @@
 // What a disk in memory does.
-ghost use Rattle.std.specs.Prelude.{◌≡◌, [], ◌∷◌, ◌+◌, ◌*◌, ◌/◌, ◌%◌, ◌≤◌, ◌++◌, length, map, All, IfOk, IfSome, OnErr, is_err, vec_len, vec_capacity, refl};
+ghost use Rattle.std.specs.Prelude.{◌≡◌, [], ◌∷◌, ◌+◌, ◌*◌, ◌/◌, ◌%◌, ◌≤◌, ◌++◌, length, map, All, IfOk, IfSome, OnErr, is_err, vec_len};
+ghost use Rattle.std.specs.Prelude.{vec_capacity, refl};
 ghost use Rattle.board_core.specs.Counters.{plain_counters};
 ghost use Rattle.board_core.specs.Disk.{ReadsDisk, WritesDisk, Flushes, IsSectorOf, overlaid, write_records};
 ghost use Rattle.board_mem.specs.Fails.{next_failure, observed_counters, changed_counters, FollowsPlan};
@@ -171,7 +172,8 @@ impl Disk for MemDisk {
         ensures meets { WritesDisk lba bytes.now (mem_disk_state self.old) (mem_disk_state self.new) result }
         ensures planned { FollowsPlan (mem_disk_plan self.old) (mem_disk_plan self.new) (is_err result) }
         ensures counters { (mem_disk_state self.new).counters ≡ changed_counters (is_err result) (mem_disk_state self.old).counters }
-        ensures remains { IfSome (next_failure (mem_disk_plan self.old)) (λ remains. LeavesSectors remains ((mem_disk_state self.old).medium.writes ++ write_records lba bytes.now (mem_disk_state self.old).medium) self.old self.new) }
+        ensures remains { IfSome (next_failure (mem_disk_plan self.old)) (λ remains. LeavesSectors remains
+            ((mem_disk_state self.old).medium.writes ++ write_records lba bytes.now (mem_disk_state self.old).medium) self.old self.new) }
     {
         let at = lba as usize * 512;
         note(
@@ -199,7 +201,8 @@ impl Disk for MemDisk {
         ensures meets { Flushes (mem_disk_state self.old) (mem_disk_state self.new) result }
         ensures planned { FollowsPlan (mem_disk_plan self.old) (mem_disk_plan self.new) (is_err result) }
         ensures counters { (mem_disk_state self.new).counters ≡ changed_counters (is_err result) (mem_disk_state self.old).counters }
-        ensures remains { IfSome (next_failure (mem_disk_plan self.old)) (λ remains. LeavesSectors remains (mem_disk_state self.old).medium.writes self.old self.new) }
+        ensures remains { IfSome (next_failure (mem_disk_plan self.old)) (λ remains. LeavesSectors remains
+            (mem_disk_state self.old).medium.writes self.old self.new) }
     {
         match self.schedule.next() {
             None => {

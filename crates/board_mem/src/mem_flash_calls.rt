@@ -1,5 +1,6 @@
 // What a flash in memory does.
-ghost use Rattle.std.specs.Prelude.{◌≡◌, [], ◌+◌, ◌*◌, ◌^◌, ◌<◌, ◌≤◌, ◌++◌, length, vec_len, vec_capacity, ◌%◌, IfOk, IfSome, OnOk, OnErr, is_err, refl};
+ghost use Rattle.std.specs.Prelude.{◌≡◌, [], ◌+◌, ◌*◌, ◌^◌, ◌<◌, ◌≤◌, ◌++◌, length, vec_len, vec_capacity, ◌%◌, IfOk, IfSome, OnOk, OnErr};
+ghost use Rattle.std.specs.Prelude.{is_err, refl};
 ghost use Rattle.board_core.specs.Counters.{plain_counters};
 ghost use Rattle.board_core.specs.Flash.{spliced, range, erased_page, Reads, Programs, Erases};
 ghost use Rattle.board_core.specs.Torn.{torn_records};
@@ -48,9 +49,11 @@ fn tear(
     requires room { vec_len torn.old + 8 ≤ vec_capacity torn.old }
     requires was { length was.old ≡ length meant.now }
     requires left { length left.old ≡ length meant.now }
-    ensures content { content.new.items ≡ spliced content.old.items at (left_by remains (range content.old.items at (length meant.now)) meant.now) }
+    ensures content { content.new.items ≡ spliced content.old.items at (left_by remains (range content.old.items at
+        (length meant.now)) meant.now) }
     ensures same_length { length content.new.items ≡ length content.old.items }
-    ensures torn { torn.new.items ≡ torn.old.items ++ torn_records at (range content.old.items at (length meant.now)) meant.now (left_by remains (range content.old.items at (length meant.now)) meant.now) }
+    ensures torn { torn.new.items ≡ torn.old.items ++ torn_records at (range content.old.items at (length meant.now)) meant.now
+        (left_by remains (range content.old.items at (length meant.now)) meant.now) }
     ensures capacity { vec_capacity torn.old ≤ vec_capacity torn.new }
     ensures noted { vec_len torn.new ≤ vec_len torn.old + 8 }
 {
@@ -93,7 +96,8 @@ impl Flash for MemFlash {
         ensures meets { Programs at bytes.now (mem_flash_state self.old) (mem_flash_state self.new) result }
         ensures planned { FollowsPlan (mem_flash_plan self.old) (mem_flash_plan self.new) (is_err result) }
         ensures counters { (mem_flash_state self.new).counters ≡ changed_counters (is_err result) (mem_flash_state self.old).counters }
-        ensures written { OnOk result ((mem_flash_state self.new).medium.bytes ≡ spliced (mem_flash_state self.old).medium.bytes at bytes.now) }
+        ensures written { OnOk result ((mem_flash_state self.new).medium.bytes ≡ spliced
+            (mem_flash_state self.old).medium.bytes at bytes.now) }
         ensures remains { IfSome (next_failure (mem_flash_plan self.old)) (λ remains. LeavesRange remains at bytes.now self.old self.new) }
     {
         match self.schedule.next() {
@@ -126,8 +130,10 @@ impl Flash for MemFlash {
         ensures meets { Erases page (mem_flash_state self.old) (mem_flash_state self.new) result }
         ensures planned { FollowsPlan (mem_flash_plan self.old) (mem_flash_plan self.new) (is_err result) }
         ensures counters { (mem_flash_state self.new).counters ≡ changed_counters (is_err result) (mem_flash_state self.old).counters }
-        ensures written { OnOk result ((mem_flash_state self.new).medium.bytes ≡ spliced (mem_flash_state self.old).medium.bytes (page * 4096) erased_page) }
-        ensures remains { IfSome (next_failure (mem_flash_plan self.old)) (λ remains. LeavesRange remains (page * 4096) erased_page self.old self.new) }
+        ensures written { OnOk result ((mem_flash_state self.new).medium.bytes ≡ spliced (mem_flash_state self.old).medium.bytes
+            (page * 4096) erased_page) }
+        ensures remains { IfSome (next_failure (mem_flash_plan self.old)) (λ remains. LeavesRange remains
+            (page * 4096) erased_page self.old self.new) }
     {
         let at = page as usize * 4096;
         let blank = make_erased_page();

@@ -75,7 +75,10 @@ impl MemTpm {
     // Puts other bytes in place of those of a space.
     fn replace(&mut self, space: Space, bytes: &[u8])
         requires { length bytes.now ≤ 64 }
-        ensures state { mem_tpm_state self.new ≡ record (mem_tpm_state self.old) { spaces = with_space space bytes.now (mem_tpm_state self.old).spaces } }
+        ensures state { mem_tpm_state self.new ≡ record (mem_tpm_state self.old) {
+          spaces = with_space space bytes.now
+              (mem_tpm_state self.old).spaces;
+        } }
         ensures plan { mem_tpm_plan self.new ≡ mem_tpm_plan self.old }
     {
         match space {
@@ -129,7 +132,8 @@ impl Tpm for MemTpm {
         ensures meets { WritesSpace space bytes.now (mem_tpm_state self.old) (mem_tpm_state self.new) result }
         ensures planned { FollowsPlan (mem_tpm_plan self.old) (mem_tpm_plan self.new) (is_err result) }
         ensures counters { (mem_tpm_state self.new).counters ≡ changed_counters (is_err result) (mem_tpm_state self.old).counters }
-        ensures remains { IfSome (next_failure (mem_tpm_plan self.old)) (λ remains. (mem_tpm_state self.new).spaces ≡ spaces_left remains space bytes.now (mem_tpm_state self.old).spaces) }
+        ensures remains { IfSome (next_failure (mem_tpm_plan self.old)) (λ remains. (mem_tpm_state self.new).spaces ≡
+            spaces_left remains space bytes.now (mem_tpm_state self.old).spaces) }
     {
         match self.schedule.next() {
             None => {

@@ -25,6 +25,14 @@ impl TableHook {
             faults: 0,
         })
     }
+
+    /// The rows, in the order in which they were enrolled.
+    pub fn rows(&self) -> &[HookRow]
+        ensures rows { result.now ≡ (table_hook_state self.now).rows }
+        ensures few { length result.now ≤ 4096 }
+    {
+        &self.rows
+    }
 }
 
 impl Hook for TableHook {
@@ -51,9 +59,11 @@ impl Hook for TableHook {
     fn enroll(&mut self, row: &HookRow) -> Result<(), EnrollFault>
         ensures meets { Enrolls row.now (table_hook_state self.old) (table_hook_state self.new) result }
         ensures failed { IsErrOf result EnrollFault.Failed ↔ IsTrue (is_some (next_failure (table_hook_plan self.old))) }
-        ensures full { next_failure (table_hook_plan self.old) ≡ None → (IsErrOf result EnrollFault.Full ↔ HasNoRoom row.now (table_hook_state self.old).rows) }
+        ensures full { next_failure (table_hook_plan self.old) ≡ None → (IsErrOf result EnrollFault.Full ↔ HasNoRoom row.now
+            (table_hook_state self.old).rows) }
         ensures plan { table_hook_plan self.new ≡ after_call (table_hook_plan self.old) }
-        ensures faults { (table_hook_state self.new).faults ≡ count_with (is_some (next_failure (table_hook_plan self.old))) (table_hook_state self.old).faults }
+        ensures faults { (table_hook_state self.new).faults ≡ count_with (is_some (next_failure (table_hook_plan self.old)))
+            (table_hook_state self.old).faults }
     {
         if self.schedule.next().is_some() {
             self.faults = raise(self.faults);

@@ -6,6 +6,7 @@ use Rattle.std.proofs.lemmas.List.{take_all}
 use Rattle.record_core.specs.Nv.{is_good_record, blank_record}
 use Rattle.board_core.specs.Counters.{MadeChanges}
 use Rattle.board_core.specs.Flash.{FlashMedium, FlashState, Programs, Programmed, LeftTorn, IsErased, range, spliced}
+use Rattle.board_core.proofs.Stops.{rose_once}
 use Rattle.nvstore_core.specs.declared.state.NvState.{NvState}
 use Rattle.nvstore_core.specs.Pages.{head_generation, cell_of, is_erased, page_record, next_cell, page_in, generation_in, current_in, record_in, page_state, IsStateOf, InRange, has_room, state_with_record, bytes_with_record, calls_to_save}
 use Rattle.nvstore_core.specs.Saving.{SameBut, Saves}
@@ -187,7 +188,7 @@ saves_by_program area at was r old new result room ranges good is state sized in
     let calls : 1 ≡ calls_to_save was = sym (cond-true (has_room was) 1 3 room) in
     record {
       counters = subst (λ (n : ℕ). MadeChanges old.counters new.counters n (is_err result)) calls call.counters.made;
-      broke = on_err_of result call.counters.broke;
+      broke = on_err_of result (λ failed. rose_once _ _ (call.counters.broke failed));
       size = call.size;
       told = call.told;
       outside = λ told. same_but_wider at 16 area 8192 old.medium.bytes new.medium.bytes (omega arith) (omega arith) (same told);

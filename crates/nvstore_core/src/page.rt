@@ -1,6 +1,7 @@
 // One page of nvdata: its head, its cells, and what they stand for.
 ghost use Rattle.std.specs.Prelude.{◌≡◌, ◌+◌, ◌*◌, ◌≤◌, ◌<◌, take, IfSome};
-ghost use Rattle.nvstore_core.specs.Pages.{head_of, head_generation, page_generation, cell_of, is_erased, last_good, tail_start, next_cell, page_record};
+ghost use Rattle.nvstore_core.specs.Pages.{head_of, head_generation, page_generation, cell_of, is_erased, last_good, tail_start, next_cell};
+ghost use Rattle.nvstore_core.specs.Pages.{page_record};
 
 use record_core::Nv;
 use wire_core::{crc8, put_u32};

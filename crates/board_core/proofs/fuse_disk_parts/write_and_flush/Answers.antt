@@ -1,8 +1,8 @@
 -- The flush after the first sectors fails: their range and each pending sector are torn.
-use Rattle.std.proofs.Common.{◌≡◌, ◌+◌, ◌*◌, ◌≤◌, ◌++◌, IsTrue, List, refl, sym, ap, ◌∙◌, subst, arith, length, take}
+use Rattle.std.proofs.Common.{◌≡◌, ◌+◌, ◌*◌, ◌≤◌, ◌++◌, IsTrue, List, inl, inr, refl, sym, ap, ◌∙◌, subst, arith, rules, length, take}
 use Rattle.std.proofs.lemmas.List.{take_all}
 use Rattle.std.proofs.lemmas.Result.{on_err_weaker}
-use Rattle.std.specs.Prelude.{All}
+use Rattle.std.specs.Prelude.{All, Ok, Err, is_err}
 use Rattle.board_core.specs.declared.torn.Torn.{Torn}
 use Rattle.board_core.specs.Flash.{range}
 use Rattle.board_core.specs.Disk.{IsSectorOf, overlaid, write_records}
@@ -29,3 +29,24 @@ returns-clause-err g c = λ told.
     (left_disk_torn_after (old.sectors * 512) old.writes own (length own) old mid new size (rw all sectors) (omega arith) (mirrors.stand told) (over ∙ ap (overlaid old.bytes) (sym all))
     (meets.torn told) (meets.writes told ∙ ap (λ (l : List Torn). old.writes ++ l) (sym all)))
     (c.flush-2.ensures.meets.err (subst IsTrue (sym meets.told) told))
+
+pub returns-then-is_empty-clause-calls : goal.returns-then-is_empty-clause-calls
+returns-then-is_empty-clause-calls g c =
+    inr (record {
+      mid = g.D.Disk.state c.args.inner.now;
+      written = inl (search rules, refl);
+      flush = record { answer = c.flush.result; answered = refl; flushed = c.flush.ensures.meets };
+    })
+
+pub returns-in_err-write-clause-calls : goal.returns-in_err-write-clause-calls
+returns-in_err-write-clause-calls g c =
+    let failed : c.from_residual.result ≡ Err c.in_err-write.field-0.0 = search rules in
+    inl (ap is_err failed, record { answer = Err c.in_err-write.field-0.0; answered = refl; written = c.in_err-write.ensures.meets })
+
+pub returns-clause-calls : goal.returns-clause-calls
+returns-clause-calls g c =
+    inr (record {
+      mid = g.D.Disk.state c.write.new.self;
+      written = inr (record { answer = Ok tt; answered = refl; written = c.in_ok-write.ensures.meets });
+      flush = record { answer = c.flush-2.result; answered = refl; flushed = c.flush-2.ensures.meets };
+    })

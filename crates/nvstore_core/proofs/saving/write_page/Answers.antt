@@ -2,7 +2,7 @@
 use Rattle.std.proofs.Common.{◌≡◌, ◌∙◌, ℕ, ◌*◌, ◌≤◌, List, length, ap, sym, subst, arith, inr}
 use Rattle.std.specs.Prelude.{IsTrue, is_err}
 use Rattle.board_core.specs.Flash.{Programmed, LeftTorn, spliced, erased_page}
-use Rattle.board_core.proofs.Stops.{made_then, rose_later}
+use Rattle.board_core.proofs.Stops.{made_then, rose_later, rose_once}
 use Rattle.nvstore_core.specs.Pages.{head_of}
 use Rattle.nvstore_core.specs.Steps.{headless_page}
 use Rattle.nvstore_core.proofs.Answering.{on_ok_map, on_err_map, on_err_of}
@@ -41,7 +41,7 @@ returns g c =
     record {
       meets = record {
         counters = ends;
-        broke = on_err_of c.program-2.result (λ failed. rose_later s0.counters.failed_changes s2.counters.failed_changes s3.counters.failed_changes fewer (q.counters.broke failed));
+        broke = on_err_of c.program-2.result (λ failed. rose_later s0.counters.failed_changes s2.counters.failed_changes s3.counters.failed_changes fewer (rose_once _ _ (q.counters.broke failed)));
         size = q.size ∙ p.size ∙ e.size;
         told = q.told ∙ p.told ∙ e.told;
         bytes = λ told. on_ok_map c.program-2.result (λ (done : Programmed place c.page_head.result s2.medium s3.medium).

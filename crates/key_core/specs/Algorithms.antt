@@ -3,7 +3,6 @@
 -- `vb2_packed_key_size` (firmware/2lib/2rsa.c).
 use Rattle.std.specs.Prelude.{ℕ, ◌+◌, ◌-◌, ◌*◌, ◌/◌, ◌%◌, Bool, not, List, [], ◌∷◌, ◌++◌, length, replicate, slice_index, nat_lt, nat_le, ◌==◌, if◌then◌else◌}
 use Rattle.wire_core.specs.FirstFault.{Table, line}
-use Rattle.key_core.specs.declared.algorithm.TheConstants.{LAST_ALGORITHM}
 use Rattle.key_core.specs.declared.fault.KeyFault.{KeyFault}
 use Rattle.key_core.specs.declared.fault.KeyFault.TheVariants.{Algorithm, Sha1, Size}
 
@@ -30,7 +29,7 @@ pub record KeyQuestion : Type 0 where
 
 abbrev pub key_lines : Table KeyQuestion KeyFault
 key_lines =
-    line Algorithm (λ key. nat_lt LAST_ALGORITHM key.algorithm)
+    line Algorithm (λ key. nat_lt 17 key.algorithm)
     ∷ line Sha1 (λ key. is_sha1 key.algorithm)
     ∷ line Size (λ key. not (key.size == key_length key.algorithm))
     ∷ []

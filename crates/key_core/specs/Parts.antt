@@ -3,7 +3,6 @@
 -- `vb2_verify_member_inside`, `vb2_verify_signature_inside` and `vb2_verify_packed_key_inside` (firmware/2lib).
 use Rattle.std.specs.Prelude.{ℕ, ◌+◌, Bool, ◌&&◌, List, nat_le, slice_range}
 use Rattle.wire_core.specs.Fields.{number_at}
-use Rattle.key_core.specs.declared.layout.TheConstants.{SIGNATURE_OFFSET, SIGNATURE_SIZE, SIGNATURE_DATA_SIZE, SIGNATURE_HEAD, KEY_OFFSET, KEY_SIZE, KEY_ALGORITHM, KEY_VERSION, KEY_HEAD}
 use Rattle.key_core.specs.declared.parts.SignatureHead.{SignatureHead}
 use Rattle.key_core.specs.declared.parts.KeyHead.{KeyHead}
 
@@ -22,13 +21,13 @@ pointed_to bytes at offset size = slice_range bytes (at + offset) (at + offset +
 abbrev pub signature_at : List ℕ → ℕ → SignatureHead
 signature_at bytes at = record {
   at = at;
-  offset = number_at 4 bytes (at + SIGNATURE_OFFSET);
-  size = number_at 4 bytes (at + SIGNATURE_SIZE);
-  data_size = number_at 4 bytes (at + SIGNATURE_DATA_SIZE);
+  offset = number_at 4 bytes (at + 0);
+  size = number_at 4 bytes (at + 8);
+  data_size = number_at 4 bytes (at + 16);
 }
 
 abbrev pub signature_is_inside : ℕ → SignatureHead → Bool
-signature_is_inside limit s = is_inside limit s.at SIGNATURE_HEAD s.offset s.size
+signature_is_inside limit s = is_inside limit s.at 24 s.offset s.size
 
 abbrev pub signature_bytes : List ℕ → SignatureHead → List ℕ
 signature_bytes bytes s = pointed_to bytes s.at s.offset s.size
@@ -45,14 +44,14 @@ pub record Key : Type 0 where
 abbrev pub key_at : List ℕ → ℕ → KeyHead
 key_at bytes at = record {
   at = at;
-  offset = number_at 4 bytes (at + KEY_OFFSET);
-  size = number_at 4 bytes (at + KEY_SIZE);
-  algorithm = number_at 4 bytes (at + KEY_ALGORITHM);
-  version = number_at 4 bytes (at + KEY_VERSION);
+  offset = number_at 4 bytes (at + 0);
+  size = number_at 4 bytes (at + 8);
+  algorithm = number_at 4 bytes (at + 16);
+  version = number_at 4 bytes (at + 24);
 }
 
 abbrev pub key_is_inside : ℕ → KeyHead → Bool
-key_is_inside limit k = is_inside limit k.at KEY_HEAD k.offset k.size
+key_is_inside limit k = is_inside limit k.at 32 k.offset k.size
 
 -- the key that a packed key holds
 abbrev pub key_in : List ℕ → KeyHead → Key

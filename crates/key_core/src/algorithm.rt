@@ -14,7 +14,7 @@ const SIGNATURE_LENGTHS: [u32; 6] = [128, 256, 512, 1024, 256, 384];
 
 /// The length of a signature by this algorithm, in bytes: that of the RSA modulus.
 pub fn signature_length(algorithm: u32) -> u32
-    requires { algorithm ≤ LAST_ALGORITHM }
+    requires { algorithm ≤ 17 }
     ensures { result ≡ signature_length algorithm }
 {
     SIGNATURE_LENGTHS[(algorithm / 3) as usize]

@@ -93,8 +93,8 @@ pub fn pack(key: &KeyView<'_>) -> PackedKey
     ensures algorithm { result.algorithm ≡ key.now.algorithm }
     ensures version { result.version ≡ key.now.version }
     ensures size { result.size ≡ length key.now.bytes }
-    ensures bytes { result.bytes ≡ padded LARGEST_KEY key.now.bytes }
-    ensures front { length key.now.bytes ≤ LARGEST_KEY → take (length key.now.bytes) result.bytes ≡ key.now.bytes }
+    ensures bytes { result.bytes ≡ padded 2056 key.now.bytes }
+    ensures front { length key.now.bytes ≤ 2056 → take (length key.now.bytes) result.bytes ≡ key.now.bytes }
 {
     PackedKey {
         algorithm: key.algorithm,
@@ -106,7 +106,7 @@ pub fn pack(key: &KeyView<'_>) -> PackedKey
 
 // The bytes, and zeros after them. Where there is no room for the bytes, all are zeros.
 fn padded(bytes: &[u8]) -> [u8; LARGEST_KEY]
-    ensures { result ≡ padded LARGEST_KEY bytes.now }
+    ensures { result ≡ padded 2056 bytes.now }
 {
     let mut room = [0; LARGEST_KEY];
     if bytes.len() > LARGEST_KEY {

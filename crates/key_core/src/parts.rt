@@ -1,7 +1,8 @@
 // Signatures and packed keys: structures that point to bytes of the buffer that they stand in.
 ghost use Rattle.std.specs.Prelude.{◌≡◌, ◌+◌, ◌≤◌, length, IsTrue};
 ghost use Rattle.wire_core.specs.Fields.{number_at};
-ghost use Rattle.key_core.specs.Parts.{is_inside, pointed_to, signature_at, signature_is_inside, signature_bytes, key_at, key_is_inside, key_in};
+ghost use Rattle.key_core.specs.Parts.{is_inside, pointed_to, signature_at, signature_is_inside, signature_bytes, key_at, key_is_inside};
+ghost use Rattle.key_core.specs.Parts.{key_in};
 
 use crate::layout::*;
 use wire_core::u32_at;
@@ -45,7 +46,7 @@ pub fn is_inside(limit: u32, at: u32, head: u32, offset: u32, size: u32) -> bool
 
 /// The numbers of the signature structure that stands at `at`.
 pub fn signature_at(bytes: &[u8], at: u32) -> SignatureHead
-    requires { at + SIGNATURE_HEAD ≤ length bytes.now }
+    requires { at + 24 ≤ length bytes.now }
     ensures { result ≡ signature_at bytes.now at }
 {
     SignatureHead {
@@ -58,7 +59,7 @@ pub fn signature_at(bytes: &[u8], at: u32) -> SignatureHead
 
 /// The numbers of the packed key that stands at `at`.
 pub fn key_at(bytes: &[u8], at: u32) -> KeyHead
-    requires { at + KEY_HEAD ≤ length bytes.now }
+    requires { at + 32 ≤ length bytes.now }
     ensures { result ≡ key_at bytes.now at }
 {
     KeyHead {

@@ -25,6 +25,9 @@ const FIELDS: [(usize, u32); 16] = [
     (104, 1),
 ];
 
+// What differs in a keyblock that is its structure alone: the seal and the data key have no bytes.
+const BARE: [(usize, u32); 6] = [(16, 112), (24, 24), (32, 0), (40, 112), (80, 32), (88, 0)];
+
 // Writes the fields into the bytes.
 fn write(rt: &impl Abort, bytes: &mut [u8], fields: &[(usize, u32)]) {
     for (at, value) in fields {
@@ -53,8 +56,10 @@ fn fault_of(bytes: &[u8], seal: Seal) -> Option<KeyblockFault> {
 // meet, where the earlier one wins. A row has the length of the buffer and the fields that differ.
 #[test]
 fn first_faults(rt: HostRuntime) {
-    let rows: [(usize, &[(usize, u32)], Option<KeyblockFault>); 22] = [
+    let rows: [(usize, &[(usize, u32)], Option<KeyblockFault>); 24] = [
         (952, &[], None),
+        (112, &BARE, None),
+        (111, &BARE, Some(KeyblockFault::TooSmall)),
         (0, &[], Some(KeyblockFault::TooSmall)),
         (111, &[], Some(KeyblockFault::TooSmall)),
         (952, &[(4, 0)], Some(KeyblockFault::Magic)),

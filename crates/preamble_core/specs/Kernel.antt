@@ -7,35 +7,40 @@ use Rattle.wire_core.specs.Fields.{number_at}
 use Rattle.wire_core.specs.FirstFault.{Table, line}
 use Rattle.key_core.specs.Parts.{signature_at, signature_is_inside, signature_bytes}
 use Rattle.key_core.specs.declared.parts.SignatureHead.{SignatureHead}
-use Rattle.preamble_core.specs.declared.layout.TheConstants.{PREAMBLE_SIZE, PREAMBLE_SIGNATURE, PREAMBLE_MAJOR, PREAMBLE_MAJOR_VERSION, PREAMBLE_MINOR, PREAMBLE_VERSION, KERNEL_LOAD_ADDRESS, KERNEL_BODY_SIGNATURE, KERNEL_HEAD, KERNEL_HEAD_1, KERNEL_HEAD_2}
 use Rattle.preamble_core.specs.declared.fault.KernelPreambleFault.{KernelPreambleFault}
 use Rattle.preamble_core.specs.declared.fault.KernelPreambleFault.TheVariants.{TooSmall, Version, Size, SigOutside, SignedTooLittle, SignedTooMuch, BodySigOutside}
 
 -- the size of the structure at a minor version
 abbrev pub kernel_head : ℕ → ℕ
-kernel_head minor = if minor == 0 then KERNEL_HEAD else if minor == 1 then KERNEL_HEAD_1 else KERNEL_HEAD_2
+kernel_head minor = if minor == 0 then 96 else if minor == 1 then 112 else 116
 
 abbrev pub size_of : List ℕ → ℕ
-size_of bytes = number_at 4 bytes PREAMBLE_SIZE
+size_of bytes = number_at 4 bytes 0
 
 abbrev pub major_of : List ℕ → ℕ
-major_of bytes = number_at 4 bytes PREAMBLE_MAJOR
+major_of bytes = number_at 4 bytes 32
 
 -- the size of the structure at its own minor version
 abbrev pub head_of : List ℕ → ℕ
-head_of bytes = kernel_head (number_at 4 bytes PREAMBLE_MINOR)
+head_of bytes = kernel_head (number_at 4 bytes 36)
+
+abbrev pub version_of : List ℕ → ℕ
+version_of bytes = number_at 4 bytes 40
+
+abbrev pub load_address_of : List ℕ → ℕ
+load_address_of bytes = number_at 8 bytes 48
 
 abbrev pub signature_of : List ℕ → SignatureHead
-signature_of bytes = signature_at bytes PREAMBLE_SIGNATURE
+signature_of bytes = signature_at bytes 8
 
 abbrev pub body_signature_of : List ℕ → SignatureHead
-body_signature_of bytes = signature_at bytes KERNEL_BODY_SIGNATURE
+body_signature_of bytes = signature_at bytes 72
 
 -- lines 1 to 7 of the kernel preamble table
 abbrev pub kernel_lines : Table (List ℕ) KernelPreambleFault
 kernel_lines =
-    line TooSmall (λ bytes. nat_lt (length bytes) KERNEL_HEAD)
-    ∷ line Version (λ bytes. not (major_of bytes == PREAMBLE_MAJOR_VERSION))
+    line TooSmall (λ bytes. nat_lt (length bytes) 96)
+    ∷ line Version (λ bytes. not (major_of bytes == 2))
     ∷ line Size (λ bytes. nat_lt (size_of bytes) (head_of bytes) || nat_lt (length bytes) (size_of bytes))
     ∷ line SigOutside (λ bytes. not (signature_is_inside (size_of bytes) (signature_of bytes)))
     ∷ line SignedTooLittle (λ bytes. nat_lt (signature_of bytes).data_size (head_of bytes))
@@ -57,8 +62,8 @@ pub record KernelPreamble : Type 0 where
 abbrev pub kernel_preamble_in : List ℕ → KernelPreamble
 kernel_preamble_in bytes = record {
   size = size_of bytes;
-  version = number_at 4 bytes PREAMBLE_VERSION;
-  load_address = number_at 8 bytes KERNEL_LOAD_ADDRESS;
+  version = version_of bytes;
+  load_address = load_address_of bytes;
   signed = take (signature_of bytes).data_size bytes;
   signature = signature_bytes bytes (signature_of bytes);
   body_len = (body_signature_of bytes).data_size;
@@ -68,8 +73,8 @@ kernel_preamble_in bytes = record {
 -- all of a kernel preamble but its signature is read from what is signed
 pub record KernelPreambleIsSigned (preamble : KernelPreamble) : Type 0 where
   pub size : preamble.size ≡ size_of preamble.signed
-  pub version : preamble.version ≡ number_at 4 preamble.signed PREAMBLE_VERSION
-  pub load_address : preamble.load_address ≡ number_at 8 preamble.signed KERNEL_LOAD_ADDRESS
+  pub version : preamble.version ≡ version_of preamble.signed
+  pub load_address : preamble.load_address ≡ load_address_of preamble.signed
   pub body_len : preamble.body_len ≡ (body_signature_of preamble.signed).data_size
   pub body_signature : preamble.body_signature ≡ signature_bytes preamble.signed (body_signature_of preamble.signed)
 

@@ -1,7 +1,8 @@
 // A kernel preamble: the checks of its bytes, and its parts.
 ghost use Rattle.std.specs.Prelude.{◌≡◌, Some, None, IfOk, IfErr, OnOk};
 ghost use Rattle.wire_core.specs.FirstFault.{first_fault};
-ghost use Rattle.preamble_core.specs.Kernel.{KernelPreamble, kernel_head, kernel_lines, kernel_preamble_in, KernelPreambleFits, KernelPreambleIsSigned};
+ghost use Rattle.preamble_core.specs.Kernel.{KernelPreamble, kernel_head, kernel_lines, kernel_preamble_in, KernelPreambleFits};
+ghost use Rattle.preamble_core.specs.Kernel.{KernelPreambleIsSigned};
 
 use crate::fault::KernelPreambleFault;
 use crate::layout::*;

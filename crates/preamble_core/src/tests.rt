@@ -43,6 +43,31 @@ const KERNEL: [(usize, u32); 13] = [
     (112, 0),
 ];
 
+// What differs in a firmware preamble that is its structure alone: no part of it has a byte.
+const BARE_FIRMWARE: [(usize, u32); 8] = [
+    (0, 108),
+    (8, 24),
+    (16, 0),
+    (24, 108),
+    (48, 32),
+    (56, 0),
+    (80, 24),
+    (88, 0),
+];
+
+// The same of a kernel preamble of this minor version and so many bytes.
+fn bare_kernel(minor: u32, size: u32) -> [(usize, u32); 7] {
+    [
+        (0, size),
+        (8, 24),
+        (16, 0),
+        (24, size),
+        (36, minor),
+        (72, 24),
+        (80, 0),
+    ]
+}
+
 // Bytes that tell their place, with these fields in them.
 fn write(rt: &impl Abort, bytes: &mut [u8], fields: &[(usize, u32)]) {
     for (at, value) in fields {
@@ -61,8 +86,10 @@ fn fill(bytes: &mut [u8]) {
 // where the earlier one wins. A row has the length of the buffer and the fields that differ.
 #[test]
 fn first_faults_of_firmware(rt: HostRuntime) {
-    let rows: [(usize, &[(usize, u32)], Option<FwPreambleFault>); 18] = [
+    let rows: [(usize, &[(usize, u32)], Option<FwPreambleFault>); 20] = [
         (1140, &[], None),
+        (108, &BARE_FIRMWARE, None),
+        (107, &BARE_FIRMWARE, Some(FwPreambleFault::TooSmall)),
         (0, &[], Some(FwPreambleFault::TooSmall)),
         (107, &[(32, 3)], Some(FwPreambleFault::TooSmall)),
         (1140, &[(32, 3)], Some(FwPreambleFault::Version)),
@@ -117,8 +144,14 @@ fn first_faults_of_firmware(rt: HostRuntime) {
 // As for firmware. The length of the structure goes by the minor version: 96, 112 and from minor version 2 on 116 bytes.
 #[test]
 fn first_faults_of_kernels(rt: HostRuntime) {
-    let rows: [(usize, &[(usize, u32)], Option<KernelPreambleFault>); 22] = [
+    let rows: [(usize, &[(usize, u32)], Option<KernelPreambleFault>); 28] = [
         (628, &[], None),
+        (96, &bare_kernel(0, 96), None),
+        (95, &bare_kernel(0, 96), Some(KernelPreambleFault::TooSmall)),
+        (112, &bare_kernel(1, 112), None),
+        (111, &bare_kernel(1, 112), Some(KernelPreambleFault::Size)),
+        (116, &bare_kernel(2, 116), None),
+        (115, &bare_kernel(2, 116), Some(KernelPreambleFault::Size)),
         (0, &[], Some(KernelPreambleFault::TooSmall)),
         (95, &[(32, 3)], Some(KernelPreambleFault::TooSmall)),
         (628, &[(32, 1)], Some(KernelPreambleFault::Version)),
@@ -216,4 +249,38 @@ fn parts_of_a_kernel_preamble(rt: HostRuntime) -> Result<(), Fail> {
     assert_eq!(rt; preamble.body_len(), 131_072);
     assert_eq!(rt; preamble.body_signature(), &bytes[116..372]);
     Ok(())
+}
+
+// The numbers of the lines of both tables.
+#[test]
+fn numbers_of_faults(rt: HostRuntime) {
+    let firmware = [
+        FwPreambleFault::TooSmall as u8,
+        FwPreambleFault::Version as u8,
+        FwPreambleFault::Size as u8,
+        FwPreambleFault::SigOutside as u8,
+        FwPreambleFault::SignedTooLittle as u8,
+        FwPreambleFault::SignedTooMuch as u8,
+        FwPreambleFault::SubkeyOutside as u8,
+        FwPreambleFault::BodySigOutside as u8,
+        FwPreambleFault::SigSize as u8,
+        FwPreambleFault::Refused as u8,
+        FwPreambleFault::VersionRange as u8,
+        FwPreambleFault::Rollback as u8,
+    ];
+    assert_eq!(rt; firmware, [1, 2, 3, 4, 5, 6, 7, 8, 9, 10, 11, 12]);
+    let kernel = [
+        KernelPreambleFault::TooSmall as u8,
+        KernelPreambleFault::Version as u8,
+        KernelPreambleFault::Size as u8,
+        KernelPreambleFault::SigOutside as u8,
+        KernelPreambleFault::SignedTooLittle as u8,
+        KernelPreambleFault::SignedTooMuch as u8,
+        KernelPreambleFault::BodySigOutside as u8,
+        KernelPreambleFault::SigSize as u8,
+        KernelPreambleFault::Refused as u8,
+        KernelPreambleFault::VersionRange as u8,
+        KernelPreambleFault::Rollback as u8,
+    ];
+    assert_eq!(rt; kernel, [1, 2, 3, 4, 5, 6, 7, 8, 9, 10, 11]);
 }

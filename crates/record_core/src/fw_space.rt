@@ -1,7 +1,8 @@
 // The firmware space of the TPM: 10 bytes that are always good. The constants are its layout, in bytes from the start, and
 // the least version of its structure.
 ghost use Rattle.std.specs.Prelude.{◌≡◌, Some};
-ghost use Rattle.record_core.specs.Space.{IsGoodFirmware, firmware_fault, firmware_flags, firmware_versions, good_bytes, stored_firmware_version, with_firmware_flags, with_firmware_versions};
+ghost use Rattle.record_core.specs.Space.{IsGoodFirmware, firmware_fault, firmware_flags, firmware_versions, good_bytes};
+ghost use Rattle.record_core.specs.Space.{stored_firmware_version, with_firmware_flags, with_firmware_versions};
 
 use crate::space::{SpaceFault, renew_crc};
 use std::marker::Model;

@@ -1,7 +1,8 @@
 // The kernel space of the TPM: 13 bytes that are always good. The constants are its layout, in bytes from the start, the
 // versions of its structure, and its uid: `LWRG` in the order of the bytes.
 ghost use Rattle.std.specs.Prelude.{◌≡◌, Some};
-ghost use Rattle.record_core.specs.Space.{IsGoodKernel, good_bytes, kernel_fault, kernel_versions, stored_kernel_version, with_kernel_versions};
+ghost use Rattle.record_core.specs.Space.{IsGoodKernel, good_bytes, kernel_fault, kernel_versions, stored_kernel_version};
+ghost use Rattle.record_core.specs.Space.{with_kernel_versions};
 
 use crate::space::{SpaceFault, renew_crc};
 use std::marker::Model;

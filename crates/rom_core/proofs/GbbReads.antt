@@ -1,6 +1,6 @@
 -- What is read of an area, as its own bytes.
 use Rattle.std.proofs.Common.{◌≡◌, ℕ, ◌+◌, ◌-◌, ◌≤◌, ◌<◌, Bool, true, false, Option, Some, None, List, ◌++◌, length, replicate, take, drop, Result, Ok, Err, OnOk, IsTrue, ap, sym, subst, ◌∙◌, arith}
-use Rattle.std.specs.Prelude.{nat_eq, nat_lt, IfOk, IfErr}
+use Rattle.std.specs.Prelude.{nat_eq, nat_lt, IfOk, IfErr, codes}
 use Rattle.std.proofs.lemmas.Bool.{le-ltb, cond-true, cond-false}
 use Rattle.std.proofs.lemmas.List.{take-take}
 use Rattle.wire_core.specs.Fields.{number_at}
@@ -20,14 +20,13 @@ use Rattle.rom_core.specs.declared.fault.GbbFault.{GbbFault}
 use Rattle.rom_core.specs.declared.fault.GbbFault.TheVariants.{Size}
 use Rattle.rom_core.specs.declared.gbb_parts.Part.{Part}
 use Rattle.rom_core.specs.declared.gbb_parts.GbbHead.{GbbHead}
-use Rattle.rom_core.specs.declared.layout.TheConstants.{GBB_MAGIC}
 use Rattle.rom_core.specs.Gbb.{has_magic, has_known_version, part_at, head_in, head_lines, parts_are_inside, HeadFound, holds_key, packed_in, part_bytes, area_bytes, key_of, Looks}
 use lib.Pointwise.{pointwise}
 
 -- ---- the head
 
 magic-take : (bytes : List ℕ) → has_magic (take 128 bytes) ≡ has_magic bytes
-magic-take bytes = ap (pointwise nat_eq GBB_MAGIC) (take-take 4 128 bytes (omega arith))
+magic-take bytes = ap (pointwise nat_eq (codes "$GBB")) (take-take 4 128 bytes (omega arith))
 
 version-take : (bytes : List ℕ) → has_known_version (take 128 bytes) ≡ has_known_version bytes
 version-take bytes =

@@ -11,28 +11,27 @@ use Rattle.rom_core.specs.declared.area.Area.{Area}
 use Rattle.rom_core.specs.declared.map.Map.{Map}
 use Rattle.rom_core.specs.declared.fault.MapFault.{MapFault}
 use Rattle.rom_core.specs.declared.fault.MapFault.TheVariants as faults
-use Rattle.rom_core.specs.declared.layout.TheConstants.{MAP_MAGIC, MAP_MAJOR, MAP_MAJOR_VERSION, MAP_COUNT, MAP_HEAD, MOST_AREAS, AREA_AT, AREA_SIZE, AREA_NAME, NAME_SIZE, AREA_ROW, PAGE_SIZE, LARGEST_FLASH, LARGEST_VBLOCK, LARGEST_MAIN, LEAST_NVRAM}
 
 -- ---- the head
 
 abbrev pub count_of : List ℕ → ℕ
-count_of head = number_at 2 head MAP_COUNT
+count_of head = number_at 2 head 54
 
 -- These 56 bytes are the head of a map at a place of a flash of this size: the magic and the one major version, and at most
 -- 128 rows behind it, which end in the flash.
 abbrev pub is_map_head : (size at : ℕ) → List ℕ → Bool
 is_map_head size at head =
-    starts_with nat_eq head MAP_MAGIC
-    && slice_index head MAP_MAJOR == MAP_MAJOR_VERSION
-    && nat_le (count_of head) MOST_AREAS
-    && nat_le (at + MAP_HEAD + AREA_ROW * count_of head) size
+    starts_with nat_eq head (codes "__FMAP__")
+    && slice_index head 8 == 1
+    && nat_le (count_of head) 128
+    && nat_le (at + 56 + 42 * count_of head) size
 
 abbrev pub head_at : List ℕ → ℕ → List ℕ
-head_at bytes at = range bytes at MAP_HEAD
+head_at bytes at = range bytes at 56
 
 -- a map stands at a place of a flash of this size
 abbrev pub is_map_at : (size : ℕ) → List ℕ → ℕ → Bool
-is_map_at size bytes at = nat_le (at + MAP_HEAD) size && is_map_head size at (head_at bytes at)
+is_map_at size bytes at = nat_le (at + 56) size && is_map_head size at (head_at bytes at)
 
 -- ---- the rows
 
@@ -44,14 +43,14 @@ pub record Row : Type 0 where
 -- the row in these 42 bytes: its name ends before the first NUL
 abbrev pub row_of : List ℕ → Row
 row_of bytes = record {
-  name = before_first (λ byte. byte == 0) (range bytes AREA_NAME NAME_SIZE);
-  area = record { at = number_at 4 bytes AREA_AT; size = number_at 4 bytes AREA_SIZE };
+  name = before_first (λ byte. byte == 0) (range bytes 8 32);
+  area = record { at = number_at 4 bytes 0; size = number_at 4 bytes 4 };
 }
 
 -- so many rows, one after the other
 unfoldable pub rows_in : ℕ → List ℕ → List Row
 rows_in zero bytes = []
-rows_in (suc count) bytes = row_of (take AREA_ROW bytes) ∷ rows_in count (drop AREA_ROW bytes)
+rows_in (suc count) bytes = row_of (take 42 bytes) ∷ rows_in count (drop 42 bytes)
 
 -- the area of the first row of this name
 abbrev pub area_named : List ℕ → List Row → Option Area
@@ -80,11 +79,11 @@ is_outside size area = area.size == 0 || nat_lt size (area.at + area.size)
 
 -- the page of its first byte
 abbrev pub first_page : Area → ℕ
-first_page area = area.at / PAGE_SIZE
+first_page area = area.at / 4096
 
 -- the first page behind it
 abbrev pub end_page : Area → ℕ
-end_page area = (area.at + area.size + (PAGE_SIZE - 1)) / PAGE_SIZE
+end_page area = (area.at + area.size + 4095) / 4096
 
 -- there is a page in which both have bytes
 abbrev pub share_page : Area → Area → Bool
@@ -101,7 +100,7 @@ written_areas areas = areas.nvram ∷ areas.vblock_a ∷ areas.main_a ∷ areas.
 
 -- the head of a map and its rows
 abbrev pub map_area : (at count : ℕ) → Area
-map_area at count = record { at = at; size = MAP_HEAD + AREA_ROW * count }
+map_area at count = record { at = at; size = 56 + 42 * count }
 
 -- ---- what can be wrong with the six areas
 
@@ -111,11 +110,11 @@ any_outside size areas = list_any (is_outside size) (areas.gbb ∷ written_areas
 
 abbrev pub any_too_large : Map → Bool
 any_too_large areas =
-    nat_lt LARGEST_VBLOCK areas.vblock_a.size || nat_lt LARGEST_VBLOCK areas.vblock_b.size || nat_lt LARGEST_MAIN areas.main_a.size || nat_lt LARGEST_MAIN areas.main_b.size
+    nat_lt 65536 areas.vblock_a.size || nat_lt 65536 areas.vblock_b.size || nat_lt 16777216 areas.main_a.size || nat_lt 16777216 areas.main_b.size
 
 -- nvdata does not begin at a page, or has not two of them
 abbrev pub is_misshapen : Map → Bool
-is_misshapen areas = not (areas.nvram.at % PAGE_SIZE == 0) || nat_lt areas.nvram.size LEAST_NVRAM
+is_misshapen areas = not (areas.nvram.at % 4096 == 0) || nat_lt areas.nvram.size 8192
 
 -- an area that is written shares a page with the map, with the GBB or with another one
 abbrev pub any_overlap : (map : Area) → Map → Bool
@@ -152,7 +151,7 @@ pub record MapQuestion : Type 0 where
 abbrev pub standing_map : MapQuestion → StandingMap
 standing_map asked =
     let count : ℕ = count_of (head_at asked.bytes asked.at) in
-    record { size = asked.size; at = asked.at; rows = rows_in count (range asked.bytes (asked.at + MAP_HEAD) (AREA_ROW * count)) }
+    record { size = asked.size; at = asked.at; rows = rows_in count (range asked.bytes (asked.at + 56) (42 * count)) }
 
 abbrev asks_standing : Line StandingMap MapFault → Line MapQuestion MapFault
 asks_standing l = line l.fault (λ asked. l.test (standing_map asked))
@@ -160,6 +159,6 @@ asks_standing l = line l.fault (λ asked. l.test (standing_map asked))
 -- the map table
 abbrev pub map_lines : Table MapQuestion MapFault
 map_lines =
-    line faults.FlashSize (λ asked. not (asked.size % PAGE_SIZE == 0) || nat_lt LARGEST_FLASH asked.size)
+    line faults.FlashSize (λ asked. not (asked.size % 4096 == 0) || nat_lt 33554432 asked.size)
     ∷ line faults.NoMap (λ asked. not (is_map_at asked.size asked.bytes asked.at))
     ∷ map asks_standing area_lines

@@ -8,7 +8,6 @@ use Rattle.rom_core.specs.declared.map.Map.{Map}
 use Rattle.rom_core.specs.declared.fault.MapFault.{MapFault}
 use Rattle.rom_core.specs.Map.{count_of, head_at, is_map_head, is_map_at, rows_in, areas_in, StandingMap, area_lines, MapQuestion, standing_map, map_lines}
 use Rattle.rom_core.specs.MapFits.{FitsFlash, IsApart}
-use Rattle.rom_core.specs.declared.layout.TheConstants.{MAP_HEAD, AREA_ROW}
 
 -- the count of areas in the head of a map, where these bytes are one
 abbrev pub map_count : (size at : ℕ) → List ℕ → Option ℕ
@@ -20,7 +19,7 @@ map_question at medium = record { size = medium.size; bytes = medium.bytes; at =
 
 -- the map at a place, which has so many rows
 abbrev pub map_of_rows : (at count : ℕ) → FlashMedium → StandingMap
-map_of_rows at count medium = record { size = medium.size; at = at; rows = rows_in count (range medium.bytes (at + MAP_HEAD) (AREA_ROW * count)) }
+map_of_rows at count medium = record { size = medium.size; at = at; rows = rows_in count (range medium.bytes (at + 56) (42 * count)) }
 
 -- The rows of a map are read, which are so many, and its areas are checked.
 pub record ReadsAreas (at count : ℕ) (old new : FlashState) (result : Result (Result Map MapFault) Failed) : Type 0 where

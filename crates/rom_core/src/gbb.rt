@@ -66,7 +66,8 @@ pub fn read_gbb<F: Flash>(flash: &mut F, area: Area) -> Result<Result<Gbb, GbbFa
 fn read_head<F: Flash>(flash: &mut F, area: Area) -> Result<Result<GbbHead, GbbFault>, Failed>
     requires { area.at + area.size ≤ (F.state flash.old).medium.size }
     ensures looks { Looks (F.state flash.old) (F.state flash.new) (is_err result) }
-    ensures found { IsTrue (F.state flash.old).medium.told → IfOk result (HeadFound area.size (area_bytes area (F.state flash.old).medium)) }
+    ensures found { IsTrue (F.state flash.old).medium.told → IfOk result (HeadFound area.size (area_bytes area
+        (F.state flash.old).medium)) }
     ensures fits { IfOk result (λ answer. IfOk answer (PartsFit area.size)) }
 {
     if area.size < GBB_HEAD {
@@ -80,9 +81,10 @@ fn read_head<F: Flash>(flash: &mut F, area: Area) -> Result<Result<GbbHead, GbbF
 // Reads the packed key that begins at `at`, where its bytes lie behind it in the `size` bytes from `at`.
 fn read_key<F: Flash>(flash: &mut F, at: u32, size: u32) -> Result<Option<PackedKey>, Failed>
     requires inside { at + size ≤ (F.state flash.old).medium.size }
-    requires head { KEY_HEAD ≤ size }
+    requires head { 32 ≤ size }
     ensures looks { Looks (F.state flash.old) (F.state flash.new) (is_err result) }
-    ensures key { IsTrue (F.state flash.old).medium.told → IfOk result (λ key. key ≡ key_of size (range (F.state flash.old).medium.bytes at size)) }
+    ensures key { IsTrue (F.state flash.old).medium.told → IfOk result (λ key. key ≡ key_of size (range
+        (F.state flash.old).medium.bytes at size)) }
 {
     // The flash's size is a u32, so no place in the key wraps.
     let _size = flash.size();
@@ -107,7 +109,8 @@ fn read_padded<F: Flash>(flash: &mut F, at: u32, size: u32, room: &mut [u8]) -> 
     requires inside { at + size ≤ (F.state flash.old).medium.size }
     requires zeros { room.old ≡ replicate (length room.old) 0 }
     ensures looks { Looks (F.state flash.old) (F.state flash.new) (is_err result) }
-    ensures padded { IsTrue (F.state flash.old).medium.told → OnOk result (room.new ≡ padded (length room.old) (range (F.state flash.old).medium.bytes at size)) }
+    ensures padded { IsTrue (F.state flash.old).medium.told → OnOk result (room.new ≡ padded (length room.old) (range
+        (F.state flash.old).medium.bytes at size)) }
 {
     let size = size as usize;
     if size <= room.len() {

@@ -1,7 +1,8 @@
 // The head of a GBB: its numbers, the ranges of its parts, and the faults that the head alone shows.
 ghost use Rattle.std.specs.Prelude.{◌≡◌, ◌+◌, ◌≤◌, Some, None, IfOk, IfErr, OnOk};
 ghost use Rattle.wire_core.specs.FirstFault.{first_fault};
-ghost use Rattle.rom_core.specs.Gbb.{part_at, head_in, has_known_version, part_is_inside, hwid_is_inside, key_part_is_inside, parts_are_inside, head_lines, PartsFit};
+ghost use Rattle.rom_core.specs.Gbb.{part_at, head_in, has_known_version, part_is_inside, hwid_is_inside, key_part_is_inside};
+ghost use Rattle.rom_core.specs.Gbb.{parts_are_inside, head_lines, PartsFit};
 
 use crate::fault::GbbFault;
 use crate::layout::*;

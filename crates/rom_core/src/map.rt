@@ -1,7 +1,8 @@
 // The six areas of a boot, out of the rows of a flash map.
 ghost use Rattle.std.specs.Prelude.{◌≡◌, ◌/◌, ◌≤◌, not, length, Some, None, IfOk, IfErr, OnOk};
 ghost use Rattle.wire_core.specs.FirstFault.{first_fault};
-ghost use Rattle.rom_core.specs.Map.{rows_in, areas_in, written_areas, any_outside, any_too_large, is_misshapen, any_overlap, map_area, area_lines};
+ghost use Rattle.rom_core.specs.Map.{rows_in, areas_in, written_areas, any_outside, any_too_large, is_misshapen, any_overlap, map_area};
+ghost use Rattle.rom_core.specs.Map.{area_lines};
 ghost use Rattle.rom_core.specs.MapFits.{FitsFlash, IsApart};
 
 use crate::area::{Area, any_share};
@@ -30,8 +31,14 @@ pub struct Map {
 // map table whose test holds.
 pub(crate) fn check_areas(size: u32, at: u32, rows: &[u8]) -> Result<Map, MapFault>
     requires { length rows.now ≤ 5376 }
-    ensures fault { IfErr result (λ fault. first_fault area_lines (record { size = size; at = at; rows = rows_in (length rows.now / 42) rows.now }) ≡ Some fault) }
-    ensures none { OnOk result (first_fault area_lines (record { size = size; at = at; rows = rows_in (length rows.now / 42) rows.now }) ≡ None) }
+    ensures fault { IfErr result (λ fault. first_fault area_lines (record {
+      size = size;
+      at = at;
+      rows = rows_in
+          (length rows.now / 42) rows.now;
+    }) ≡ Some fault) }
+    ensures none { OnOk result (first_fault area_lines (record { size = size; at = at; rows = rows_in (length rows.now / 42) rows.now }) ≡
+        None) }
     ensures areas { IfOk result (λ map. areas_in (rows_in (length rows.now / 42) rows.now) ≡ Some map) }
     ensures fits { IfOk result (FitsFlash size) }
     ensures apart { IfOk result (IsApart at (length rows.now / 42)) }

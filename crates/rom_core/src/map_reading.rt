@@ -41,9 +41,12 @@ fn read_count<F: Flash>(flash: &mut F, size: u32, at: u32) -> Result<Option<u16>
     requires { size ≡ (F.state flash.old).medium.size }
     ensures counters { Observed (F.state flash.old).counters (F.state flash.new).counters (is_err result) }
     ensures medium { (F.state flash.new).medium ≡ (F.state flash.old).medium }
-    ensures stands { IsTrue (F.state flash.old).medium.told → IfOk result (λ found. IfSome found (λ _. is_map_at size (F.state flash.old).medium.bytes at ≡ true)) }
-    ensures count { IsTrue (F.state flash.old).medium.told → IfOk result (λ found. IfSome found (λ count. count ≡ count_of (head_at (F.state flash.old).medium.bytes at))) }
-    ensures none { IsTrue (F.state flash.old).medium.told → IfOk result (λ found. IfNone found (is_map_at size (F.state flash.old).medium.bytes at ≡ false)) }
+    ensures stands { IsTrue (F.state flash.old).medium.told → IfOk result (λ found. IfSome found (λ _. is_map_at size
+        (F.state flash.old).medium.bytes at ≡ true)) }
+    ensures count { IsTrue (F.state flash.old).medium.told → IfOk result (λ found. IfSome found (λ count. count ≡ count_of (head_at
+        (F.state flash.old).medium.bytes at))) }
+    ensures none { IsTrue (F.state flash.old).medium.told → IfOk result (λ found. IfNone found (is_map_at size
+        (F.state flash.old).medium.bytes at ≡ false)) }
     ensures fits { IfOk result (λ found. IfSome found (λ count. (count ≤ 128) × (at + 56 + 42 * count ≤ size))) }
 {
     if u64::from(at) + u64::from(MAP_HEAD) > u64::from(size) {

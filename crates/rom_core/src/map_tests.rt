@@ -10,6 +10,9 @@ use std::process::Abort;
 // The bytes from place 0, in which maps are put.
 type Front = [u8; 8192];
 
+// A name of 32 letters, which no NUL ends. It begins with that of an area.
+const LONG_NAME: &str = "FW_MAIN_A_AND_SOME_OTHER_LETTERS";
+
 // A row of a map: the name, the place and the size of an area.
 type Row = (&'static str, u32, u32);
 
@@ -68,7 +71,7 @@ fn put_head(rt: &impl Abort, front: &mut Front, at: usize, count: u16) {
 // Puts the row of this number of the map at `at`.
 fn put_row(rt: &impl Abort, front: &mut Front, at: usize, number: usize, row: Row) {
     let (name, area_at, size) = row;
-    assert!(rt; at <= 7000 && number < 20 && name.len() < 32);
+    assert!(rt; at <= 7000 && number < 128 && name.len() <= 32);
     let start = at + 56 + 42 * number;
     put(rt, front, start, &area_at.to_le_bytes());
     put(rt, front, start + 4, &size.to_le_bytes());
@@ -113,6 +116,7 @@ fn areas_and_their_faults(rt: HostRuntime) {
         (1, ("RW_NVRA", 32768, 8192), MapFault::MissingArea),
         (2, ("VBLOCK_B", 65536, 65536), MapFault::MissingArea),
         (3, ("FW_MAIN", 131_072, 131_072), MapFault::MissingArea),
+        (3, (LONG_NAME, 131_072, 131_072), MapFault::MissingArea),
         (4, ("", 262_144, 65536), MapFault::MissingArea),
         (5, ("fw_main_b", 327_680, 131_072), MapFault::MissingArea),
         // one that is empty or not inside
@@ -205,6 +209,14 @@ fn heads(rt: HostRuntime) {
             "{place}"
         );
     }
+    // A map of 128 rows, of which the last six name the areas.
+    let mut front = [0xff; 8192];
+    put_head(&rt, &mut front, 0, 128);
+    for (number, row) in ROWS.iter().enumerate() {
+        put_row(&rt, &mut front, 0, 122 + number, *row);
+    }
+    let found = read_map(&mut RomFlash::new(&front, 1_048_576, 2), 0);
+    assert_eq!(&rt; found, Ok(Ok(AREAS)));
     // The rows of a map end in the flash.
     let mut front = [0xff; 8192];
     put_head(&rt, &mut front, 8094, 1);

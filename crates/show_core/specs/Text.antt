@@ -9,19 +9,13 @@ use Rattle.preamble_core.specs.declared.fault.FwPreambleFault.{FwPreambleFault}
 use Rattle.preamble_core.specs.declared.fault.FwPreambleFault.TheVariants as preamble_fault
 use Rattle.rom_core.specs.declared.area.Area.{Area}
 use Rattle.rom_core.specs.declared.fault.GbbFault.{GbbFault}
-use Rattle.rom_core.specs.declared.fault.GbbFault.TheVariants as gbb_fault
+use Rattle.rom_core.specs.Faults.{gbb_fault_number}
 use Rattle.show_core.specs.declared.facts.FlashFacts.{FlashFacts}
 use Rattle.show_core.specs.declared.facts.GbbFacts.{GbbFacts}
 use Rattle.show_core.specs.declared.facts.KeyblockFacts.{KeyblockFacts}
 use Rattle.show_core.specs.declared.facts.PreambleFacts.{PreambleFacts}
 
 -- ---- the number of a fault: the line of its table, counted from 1
-
-abbrev pub gbb_fault_number : GbbFault → ℕ
-gbb_fault_number gbb_fault.Size = 1
-gbb_fault_number gbb_fault.Magic = 2
-gbb_fault_number gbb_fault.Version = 3
-gbb_fault_number gbb_fault.Outside = 4
 
 abbrev pub keyblock_fault_number : KeyblockFault → ℕ
 keyblock_fault_number keyblock_fault.TooSmall = 1

@@ -68,7 +68,7 @@ fn push_gbb_line(text: &mut Text, gbb: &Result<GbbFacts, GbbFault>)
         Ok(gbb) => push_gbb(text, gbb),
         Err(fault) => {
             text.push(b"gbb");
-            push_fault_end(text, gbb_fault_number(*fault));
+            push_fault_end(text, fault.number());
         }
     }
 }
@@ -237,12 +237,6 @@ fn push_fault_end(text: &mut Text, number: u8)
 }
 
 // ---- the numbers of faults
-
-fn gbb_fault_number(fault: GbbFault) -> u8
-    ensures { result ≡ spec.gbb_fault_number fault }
-{
-    fault as u8
-}
 
 fn keyblock_fault_number(fault: KeyblockFault) -> u8
     ensures { result ≡ spec.keyblock_fault_number fault }

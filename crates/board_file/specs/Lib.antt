@@ -1,3 +1,4 @@
 pub mod HookFile
 pub mod HookAnswer
 pub mod Files
+pub mod FileDisk

@@ -3,6 +3,7 @@ ghost use Rattle.std.specs.Prelude.{◌≡◌, IfOk};
 
 use crate::open_fault::{BoardFile, OpenFault};
 use crate::place::put_in_place;
+use crate::stream::{read_at, write_at};
 use board_core::{Failed, Flash, make_erased_page, raise};
 use std::fs::{File, Files, OpenOptions};
 use std::io;
@@ -74,20 +75,6 @@ fn make_erased<R: Files>(files: &R, pages: u32) -> io::Result<()> {
         file.write_all(&blank)?;
     }
     put_in_place(files, file, NEW_FLASH_FILE, BoardFile::Flash.name())
-}
-
-fn read_at<S: Read + Seek>(stream: &mut S, at: u64, buf: &mut [u8]) -> Result<(), Failed> {
-    if stream.seek(SeekFrom::Start(at)).is_err() || stream.read_exact(buf).is_err() {
-        return Err(Failed);
-    }
-    Ok(())
-}
-
-fn write_at<S: Write + Seek>(stream: &mut S, at: u64, bytes: &[u8]) -> Result<(), Failed> {
-    if stream.seek(SeekFrom::Start(at)).is_err() || stream.write_all(bytes).is_err() {
-        return Err(Failed);
-    }
-    Ok(())
 }
 
 impl<S: Read + Write + Seek> Flash for FileFlash<S> {

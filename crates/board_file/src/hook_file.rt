@@ -5,13 +5,15 @@
 //     key = "64 hexadecimal digits"
 //     digest = "64 or 128 hexadecimal digits"
 //     signature = "64 hexadecimal digits"
-ghost use Rattle.std.specs.Prelude.{◌≡◌, ◌<◌, vec_len, ◌-◌, ◌/◌, ◌≤◌, length, take, drop, map, replicate, option_map, IfSome, IsTrue, IsOk, IfOk};
+ghost use Rattle.std.specs.Prelude.{◌≡◌, ◌<◌, vec_len, ◌-◌, ◌/◌, ◌≤◌, length, take, drop, map, replicate, option_map, IfSome, IsTrue, IsOk};
+ghost use Rattle.std.specs.Prelude.{IfOk};
 ghost use Rattle.toml.specs.Errors.{IsBlank};
 ghost use Rattle.toml.specs.Data.{get_member};
 ghost use Rattle.toml.specs.View.{view, table_view};
 ghost use Rattle.board_core.specs.HookRow.{is_digest_size};
 ghost use Rattle.board_file.specs.HookFile as spec;
-ghost use Rattle.board_file.specs.HookFile.{told, members_count, bytes_of, is_short, is_short_or_long, row_of, row_of_members, elements_of, rows_of, hook_of, hook_file};
+ghost use Rattle.board_file.specs.HookFile.{told, members_count, bytes_of, is_short, is_short_or_long, row_of, row_of_members, elements_of};
+ghost use Rattle.board_file.specs.HookFile.{rows_of, hook_of, hook_file};
 ghost use Rattle.board_file.specs.HookAnswer.{Answers};
 
 use crate::hook_file_fault::HookFileFault;

@@ -1,11 +1,12 @@
 //! The devices of a board over files of the current folder, and over standard input and output.
 //!
-//! - `file_flash`, `file_tpm`, `file_hook`, `std_source` and `std_sink` have a device each, which counts its failures. They
+//! - `file_flash`, `file_disk`, `file_tpm`, `file_hook`, `std_source` and `std_sink` have a device each, which counts its failures. They
 //!   tell no content, but for the rows in memory of a hook: what a file keeps is not claimed.
 //! - `hook_file` reads the file of accepted signatures, `hook_file_fault` says why it did not, and `hook_text` writes it.
-//! - `place` makes a file anew, and `open_fault` names the files and says why one was not opened.
+//! - `stream` reads and writes at a place, `place` makes a file anew, and `open_fault` names the files and says why one was not opened.
 #![tactic(auto)]
 
+mod file_disk;
 mod file_flash;
 mod file_hook;
 mod file_tpm;
@@ -18,9 +19,11 @@ mod open_fault;
 mod place;
 mod std_sink;
 mod std_source;
+mod stream;
 #[cfg(test)]
 mod tests;
 
+pub use file_disk::{FileDisk, open_disk, open_stick};
 pub use file_flash::{FileFlash, open_flash};
 pub use file_hook::FileHook;
 pub use file_tpm::FileTpm;

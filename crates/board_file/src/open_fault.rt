@@ -14,6 +14,10 @@ pub enum BoardFile {
     FirmwareSpace,
     /// The kernel space of the TPM.
     KernelSpace,
+    /// The internal disk.
+    Disk,
+    /// The stick.
+    Stick,
     /// The accepted signatures.
     Hook,
 }
@@ -28,6 +32,8 @@ impl BoardFile {
             BoardFile::Flash => "flash.bin",
             BoardFile::FirmwareSpace => "tpm_fw.bin",
             BoardFile::KernelSpace => "tpm_kernel.bin",
+            BoardFile::Disk => "disk.img",
+            BoardFile::Stick => "stick.img",
             BoardFile::Hook => "hook.toml",
         }
     }

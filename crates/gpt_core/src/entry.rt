@@ -83,8 +83,8 @@ fn bytes_of(entry: &Entry) -> Bytes
     bytes
 }
 
-// Puts an entry in the place of entry `k`.
-pub(crate) fn put_entry(entries: &mut [u8], k: u32, entry: &Entry)
+/// Puts an entry in the place of entry `k`, from 0, of the 16,384 bytes of the entries.
+pub fn put_entry(entries: &mut [u8], k: u32, entry: &Entry)
     requires size { length entries.old ≡ 16384 }
     requires place { k < 128 }
     ensures { entries.new ≡ with_entry entries.old k entry.now }

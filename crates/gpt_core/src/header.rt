@@ -1,7 +1,8 @@
 // The header of a copy: reading one, and making one.
 ghost use Rattle.std.specs.Prelude.{◌≡◌, ◌≤◌, ◌&&◌, length};
 ghost use Rattle.gpt_core.specs.Format as spec;
-ghost use Rattle.gpt_core.specs.Format.{has_signature, has_own_crc, has_place, has_entries_place, has_counts, has_bounds, header_rest, header_sector};
+ghost use Rattle.gpt_core.specs.Format.{has_signature, has_own_crc, has_place, has_entries_place, has_counts, has_bounds, header_rest};
+ghost use Rattle.gpt_core.specs.Format.{header_sector};
 ghost use Rattle.gpt_core.specs.Heads.{head_in, table_with};
 
 use crate::bytes::Bytes;
@@ -13,12 +14,15 @@ use crate::layout::{
 use crate::side::{Side, entries_place, header_place, other_of};
 use wire_core::{crc32, put_u32, u32_at, u64_at};
 
-// What the header says of the table.
+/// What a header says of the table beside its entries. Source: the UEFI specification, section 5.3.2.
 #[derive(Clone, Copy, Debug, PartialEq, Eq)]
-pub(crate) struct Head {
-    pub(crate) guid: [u8; GUID_SIZE],
-    pub(crate) first: u64,
-    pub(crate) last: u64,
+pub struct Head {
+    /// The GUID of the disk, as it is stored.
+    pub guid: [u8; 16],
+    /// The first usable sector.
+    pub first: u64,
+    /// The last usable sector.
+    pub last: u64,
 }
 
 // What a header says.
@@ -137,8 +141,9 @@ fn header_with(crc: u32, rest: &Bytes) -> Bytes
     bytes
 }
 
-// The sector of a header.
-pub(crate) fn header_sector(side: Side, sectors: u64, head: &Head, entries: &[u8]) -> [u8; SECTOR]
+/// The sector of the header of a copy, for a disk of so many sectors: its 92 bytes with their CRC, and zeros behind them.
+/// `entries` are all bytes of the entries, over which the header has a CRC.
+pub fn header_sector(side: Side, sectors: u64, head: &Head, entries: &[u8]) -> [u8; SECTOR]
     requires { 69 ≤ sectors }
     ensures { result ≡ header_sector side sectors (table_with head.now entries.now) }
 {

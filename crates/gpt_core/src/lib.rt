@@ -29,8 +29,9 @@ mod tests;
 mod writing;
 
 pub use committing::commit;
-pub use entry::Entry;
+pub use entry::{Entry, put_entry};
 pub use found::Found;
+pub use header::{Head, header_sector};
 pub use reading::read_table;
 pub use room::GptRoom;
 pub use side::Side;

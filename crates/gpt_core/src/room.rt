@@ -2,7 +2,8 @@
 ghost use Rattle.std.specs.Prelude.{◌≡◌, ◌↔◌, ◌-◌, ◌≤◌, ℕ, true, false, length, IfOk, IsTrue};
 ghost use Rattle.gpt_core.specs.Entries.{entry_in};
 ghost use Rattle.gpt_core.specs.Format.{IsValidTable};
-ghost use Rattle.gpt_core.specs.Room.{empty_room, found_room, room_with, started_room, committed_room, Fits, table_with_entry, table_with_attributes, IsValidFound};
+ghost use Rattle.gpt_core.specs.Room.{empty_room, found_room, room_with, started_room, committed_room, Fits, table_with_entry};
+ghost use Rattle.gpt_core.specs.Room.{table_with_attributes, IsValidFound};
 
 use crate::entry::Entry;
 use crate::found::Found;

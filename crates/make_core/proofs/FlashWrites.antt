@@ -29,7 +29,7 @@ range-begun n count image bytes fits =
     ap (take count) (drop_at (take n image) (drop n bytes) n front)
 
 -- one more range of the image
-begun-more : (n count : ℕ) (image bytes : List ℕ) → n + count ≤ length image → n + count ≤ length bytes → spliced (begun n image bytes) n (range image n count) ≡ begun (n + count) image bytes
+pub begun-more : (n count : ℕ) (image bytes : List ℕ) → n + count ≤ length image → n + count ≤ length bytes → spliced (begun n image bytes) n (range image n count) ≡ begun (n + count) image bytes
 begun-more n count image bytes fits inside =
     let front : length (take n image) ≡ n = omega (arith, length-take n image) in
     let piece = range image n count in

@@ -10,3 +10,7 @@ pub mod PageWrites
 pub mod FlashWrites
 pub mod Enrollments
 pub mod RowsMade
+pub mod KernelSizes
+pub mod DriveParts
+pub mod DriveWrites
+pub mod Machines

@@ -3,7 +3,12 @@ pub mod Fill
 pub mod Puts
 pub mod Firmware
 pub mod Layout
+pub mod Kernel
+pub mod Table
+pub mod Drive
+pub mod DriveParts
 pub mod Writing
+pub mod DriveWrites
 pub mod Pages
 pub mod Spaces
 pub mod Rows

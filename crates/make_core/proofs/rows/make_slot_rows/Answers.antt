@@ -1,12 +1,14 @@
-use Rattle.std.proofs.Common.{◌≡◌, ◌∙◌, [], ◌∷◌, ap}
+use Rattle.std.proofs.Common.{ℕ, ◌≡◌, ◌∙◌, [], ◌∷◌, ap}
 use Rattle.sha2.specs.Sha256.{sha256}
 use Rattle.board_core.specs.declared.hook_row.HookRow.{HookRow}
 use Rattle.make_core.specs.Firmware.{signed_keyblock, signed_preamble, body}
+use Rattle.make_core.specs.Fill.{fill}
 use Rattle.make_core.specs.Rows.{signed_row}
 use Rattle.make_core.proofs.RowsMade.{row_is}
 use Rattle.make_core.proofs.rows.make_slot_rows.Goals as goal
 
 pub returns : goal.returns
+unfolding body
 returns c =
     let number = c.args.number in
     let tags = c.args.tags.now in
@@ -15,7 +17,7 @@ returns c =
     let preamble : c.make_row-preamble.result ≡ signed_row number 3 (signed_preamble number tags.body_signature) tags.preamble =
     row_is number 3 _ (signed_preamble number tags.body_signature) tags.preamble _ c.make_row-preamble.ensures (c.digest-2.ensures ∙ ap sha256 c.make_signed_preamble-signed.ensures) in
     let last : c.make_row-body.result ≡ signed_row number 3 (body number tags) tags.body_signature =
-    row_is number 3 _ (body number tags) tags.body_signature _ c.make_row-body.ensures c.body_digest-digest.ensures in
+    row_is number 3 _ (body number tags) tags.body_signature _ c.make_row-body.ensures (c.body_digest-digest.ensures ∙ ap (λ (n : ℕ). sha256 (fill number tags.body n)) c.body_size.ensures) in
     ap (λ (r : HookRow). r ∷ c.make_row-preamble.result ∷ c.make_row-body.result ∷ []) keyblock
     ∙ ap (λ (r : HookRow). signed_row number 1 (signed_keyblock number 7 3) tags.keyblock ∷ r ∷ c.make_row-body.result ∷ []) preamble
     ∙ ap (λ (r : HookRow). signed_row number 1 (signed_keyblock number 7 3) tags.keyblock ∷ signed_row number 3 (signed_preamble number tags.body_signature) tags.preamble ∷ r ∷ []) last

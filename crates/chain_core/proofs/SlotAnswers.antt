@@ -24,7 +24,7 @@ use Rattle.chain_core.specs.declared.fault.Failure.{Failure}
 use Rattle.chain_core.specs.declared.slot_fault.SlotFault.{SlotFault}
 use Rattle.chain_core.specs.declared.slot_fault.SlotOk.{SlotOk}
 use Rattle.chain_core.proofs.Keys.{Known, data_key_known, data_key_range, known_fits}
-use Rattle.chain_core.proofs.Slots.{Found, Parts, chain_of, nowhere}
+use Rattle.chain_core.proofs.Slots.{Found, Parts, chain_of, no_older, nowhere}
 
 -- ---- answers
 
@@ -38,6 +38,7 @@ slot_faulted question head whole flash flash' hook hook' out fault looks asked f
   none = λ told told'. tt;
   ok = λ told. tt;
   chain = λ told told'. tt;
+  no_older = λ told told'. tt;
   many = tt;
   body = λ told. tt;
 }
@@ -51,6 +52,7 @@ slot_failed q flash flash' hook hook' out failure looks asked = record {
   none = λ told told'. tt;
   ok = λ told. tt;
   chain = λ told told'. tt;
+  no_older = λ told told'. tt;
   many = tt;
   body = λ told. tt;
 }
@@ -62,6 +64,9 @@ pub record Good (q : SlotQuestion) (flash : FlashState) (hook : HookState) (out 
   pub is : ok ≡ slot_ok q
   pub many : length out ≡ ok.body_len
   pub filled : IsTrue flash.medium.told → out ≡ slot_body q
+
+not_older : (q : SlotQuestion) (ok : SlotOk) → ok ≡ slot_ok q → Found q → IsTrue q.rollback → q.stored ≤ ok.version
+not_older q ok is found checked = subst (λ (o : SlotOk). q.stored ≤ o.version) (sym is) (no_older (asked_of_preamble q) found.preamble checked)
 
 pub slot_good : (question : List ℕ → SlotQuestion) (head whole : List ℕ) (flash flash' : FlashState) (hook hook' : HookState) (out : List ℕ) (ok : SlotOk) → Looks flash flash' false → Asked hook hook' false
     → (IsTrue flash.medium.told → head ≡ whole) → Good (question head) flash hook out ok → VerifiesSlot (question whole) flash flash' hook hook' out (Ok (Ok ok))
@@ -75,6 +80,7 @@ slot_good question head whole flash flash' hook hook' out ok looks asked filled 
           subst (λ (h : List ℕ). slot_fault (question h) ≡ None) (filled told) (nowhere (question head) found.keyblock found.preamble found.body);
       ok = λ told. subst (λ (h : List ℕ). ok ≡ slot_ok (question h)) (filled told) good.is;
       chain = λ told told'. subst (λ (h : List ℕ). FirmwareChain (question h)) (filled told) (chain_of (question head) good.parts (good.found told told'));
+      no_older = λ told told'. subst (λ (h : List ℕ). IsTrue (question h).rollback → (question h).stored ≤ ok.version) (filled told) (not_older (question head) ok good.is (good.found told told'));
       many = good.many;
       body = λ told. subst (λ (h : List ℕ). out ≡ slot_body (question h)) (filled told) (good.filled told);
     }

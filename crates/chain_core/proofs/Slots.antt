@@ -1,6 +1,6 @@
 -- The table of a slot, and the chain of its signatures.
-use Rattle.std.proofs.Common.{◌≡◌, ℕ, Bool, true, false, not, Some, None, List, ◌++◌, length, take, refl, ◌∙◌, ◌==◌}
-use Rattle.std.specs.Prelude.{Any}
+use Rattle.std.proofs.Common.{◌≡◌, ℕ, ◌≤◌, Bool, true, false, not, Some, None, List, ◌++◌, length, take, refl, subst, ◌∙◌, ◌==◌}
+use Rattle.std.specs.Prelude.{Any, IsTrue, ◌&&◌, nat_lt}
 use Rattle.wire_core.specs.FirstFault.{Table, first_fault}
 use Rattle.wire_core.proofs.FirstFault.{first_fault-append, first_fault-append_some, first_fault-none}
 use Rattle.board_core.specs.Hook.{IsRowOf}
@@ -14,13 +14,13 @@ use Rattle.preamble_core.specs.Firmware.{firmware_lines, FwPreambleFits, FwPream
 use Rattle.preamble_core.specs.declared.fault.FwPreambleFault.{FwPreambleFault}
 use Rattle.chain_core.specs.Hashing.{message_digest}
 use Rattle.chain_core.specs.Accepted.{Accepts, key_of, is_enrolled}
-use Rattle.chain_core.specs.Tables.{lifted, KeyblockQuestion, keyblock_of, keyblock_table, signer_lines, signer_question, seal_lines, data_key_lines, data_key_question, PreambleQuestion, preamble_of, further_preamble_lines, preamble_table, BodyQuestion, body_table}
+use Rattle.chain_core.specs.Tables.{lifted, KeyblockQuestion, keyblock_of, keyblock_table, signer_lines, signer_question, seal_lines, data_key_lines, data_key_question, PreambleQuestion, preamble_of, further_preamble_lines, preamble_table, combined_version, BodyQuestion, body_table}
 use Rattle.chain_core.specs.Slot.{SlotQuestion, slot_keyblock, slot_preamble, asked_of_keyblock, asked_of_preamble, asked_of_body, slot_table, slot_fault, FirmwareChain}
 use Rattle.chain_core.specs.declared.fault.BodyFault.{BodyFault}
 use Rattle.chain_core.specs.declared.slot_fault.SlotFault.{SlotFault}
 use Rattle.chain_core.specs.declared.slot_fault.SlotFault.TheVariants as slot_faults
 use Rattle.chain_core.proofs.Keys.{Known, signer_known}
-use Rattle.chain_core.proofs.Lifted.{lifted-none, lifted-some, lifted-back, append-none, is_equal}
+use Rattle.chain_core.proofs.Lifted.{lifted-none, lifted-some, lifted-back, append-none, is_equal, not_over}
 use Rattle.chain_core.proofs.Rows.{is_enrolled-Decides}
 
 -- ---- the table of a slot
@@ -107,6 +107,13 @@ accepts_preamble q e known fits =
       signature_size = fits.signature_length ∙ is_equal _ _ further.0;
       row = enrolled_row q.rows q.key (preamble_of q).signed (preamble_of q).signature further.1.0;
     }
+
+-- where versions are checked, that of the slot is not under the stored one
+pub no_older : (q : PreambleQuestion) → first_fault preamble_table q ≡ None → IsTrue q.rollback → q.stored ≤ combined_version q.key.version (preamble_of q).version
+no_older q e checked =
+    let further = first_fault-none further_preamble_lines q (further_preamble q e) in
+    let version = combined_version q.key.version (preamble_of q).version in
+    not_over version q.stored (subst (λ (b : Bool). (b && nat_lt version q.stored) ≡ false) checked further.1.1.1.0)
 
 body_signed : (q : BodyQuestion) → first_fault body_table q ≡ None → (not (q.signature_size == signature_length q.key.algorithm) ≡ false) × (not (is_enrolled q.rows q.key (take q.len q.bytes) q.signature) ≡ false)
 unfolding body_table

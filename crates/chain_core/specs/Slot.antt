@@ -1,6 +1,6 @@
 -- A firmware slot: its whole fault table, what a good one holds, and the chain of its signatures.
 -- Source: `vb2api_fw_phase3` and `vb2api_check_hash` of vboot_reference (firmware/2lib/2api.c, 2misc.c).
-use Rattle.std.specs.Prelude.{◌≡◌, ℕ, Bool, IsTrue, List, ◌++◌, length, take, drop, Option, Some, None, Result, IfOk, IfErr, OnOk}
+use Rattle.std.specs.Prelude.{◌≡◌, ℕ, ◌≤◌, Bool, IsTrue, List, ◌++◌, length, take, drop, Option, Some, None, Result, IfOk, IfErr, OnOk}
 use Rattle.wire_core.specs.FirstFault.{Table, first_fault}
 use Rattle.board_core.specs.Flash.{FlashState}
 use Rattle.board_core.specs.Hook.{HookState}
@@ -140,6 +140,8 @@ pub record VerifiesSlot (q : SlotQuestion) (flash flash' : FlashState) (hook hoo
   pub ok : IsTrue flash.medium.told → IfOk result (λ answer. IfOk answer (λ ok. ok ≡ slot_ok q))
   -- the three signatures are accepted
   pub chain : IsTrue flash.medium.told → IsTrue hook.told → IfOk result (λ answer. OnOk answer (FirmwareChain q))
+  -- where versions are checked, it is no older than the stored one
+  pub no_older : IsTrue flash.medium.told → IsTrue hook.told → IfOk result (λ answer. IfOk answer (λ ok. IsTrue q.rollback → q.stored ≤ ok.version))
   -- the body that is handed out has that length
   pub many : IfOk result (λ answer. IfOk answer (λ ok. length handed_out ≡ ok.body_len))
   -- and is the one in the flash

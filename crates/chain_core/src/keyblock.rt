@@ -26,8 +26,9 @@ fn signer_fault(signer: &PackedKey) -> Option<KeyblockFault>
     }
 }
 
-// The first of lines 14 to 18 of the keyblock table whose test holds: what is wrong with the data key.
-fn data_key_fault(key: &KeyView<'_>, stored: u32, rollback: bool) -> Option<KeyblockFault>
+/// What is wrong with a keyblock's data key: the first of lines 14 to 18 of the keyblock table whose test holds. `stored` is
+/// the stored version word, and is looked at only where `rollback` says so.
+pub fn data_key_fault(key: &KeyView<'_>, stored: u32, rollback: bool) -> Option<KeyblockFault>
     ensures { result ≡ first_fault data_key_lines (view_question key.now stored rollback) }
 {
     let fault = key_fault(key.algorithm(), key.bytes().len() as u32);

@@ -19,7 +19,7 @@ mod slot_fault;
 pub use body::verify_flash_body;
 pub use fault::{BodyFault, Failure};
 pub use hasher::{Hasher, is_signed};
-pub use keyblock::{LARGEST_VERSION, verify_keyblock};
+pub use keyblock::{LARGEST_VERSION, data_key_fault, verify_keyblock};
 pub use preamble::{combined_version, verify_preamble};
 pub use room::{LARGEST_MAIN, LARGEST_VBLOCK, SlotRoom};
 pub use slot::verify_slot;

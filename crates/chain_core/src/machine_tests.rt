@@ -1,4 +1,7 @@
 // Both slots of made machines, whose map says where they stand and whose GBB has the root key.
+ghost use Rattle.std.specs.Prelude.{◌≡◌, IfOk};
+ghost use Rattle.board_core.specs.FuseDisk.{fuse_disk_state};
+
 use crate::{BodyFault, SlotFault, SlotRoom, verify_slot};
 use board_core::{Flash, Fuse, FuseDisk, FuseTpm, Platform};
 use board_mem::{MemDisk, MemFlash, MemTpm, TableHook};
@@ -12,12 +15,16 @@ use std::test::Fail;
 
 type Board = Platform<MemFlash, MemTpm, MemDisk, MemDisk, TableHook>;
 
-// A board with a blank flash and no rows.
-fn blank_board(alloc: Global) -> Result<Board, AllocError> {
+// A board with a blank flash, a disk of zeros, no stick and no rows.
+fn blank_board(alloc: Global) -> Result<Board, AllocError>
+    ensures disk { IfOk result (λ board. (fuse_disk_state board.disk).medium.pending ≡ 0) }
+    ensures stick { IfOk result (λ board. (fuse_disk_state board.stick).medium.pending ≡ 0) }
+{
     let content = vec![in alloc; 0xff; 1_048_576]?;
     let flash = MemFlash::new(alloc, &content, &[])?;
     let tpm = MemTpm::new(alloc, &[], &[], &[])?;
-    let disk = MemDisk::new(alloc, &[], &[])?;
+    let sectors = vec![in alloc; 0; 8_388_608]?;
+    let disk = MemDisk::new(alloc, &sectors, &[])?;
     let stick = MemDisk::new(alloc, &[], &[])?;
     let hook = TableHook::new(alloc, &[], &[])?;
     Ok(Platform {

@@ -18,20 +18,20 @@ use Rattle.boot_core.proofs.Making.{looks_carry, still_settled}
 -- a fault in the changes
 pub finishes_cut : (found : Found) (plan : Plan) (old new : World) (fault : Fault) → Makes {T = ℕ} found plan old new (Err fault) → Finishes found plan old new (Err fault)
 finishes_cut found plan old new fault h = record {
-  makes = record { carried = carried_err 0 (targets_at found.area) found.state (changes_of plan) old new fault h.carried; kept = h.kept };
+  makes = record { carried = carried_err 0 (targets_at found.map.nvram.at) found.state (changes_of plan) old new fault h.carried; kept = h.kept };
   locks = tt;
   outcome = tt;
 }
 
-kept_on : (found : Found) (old mid new : World) → new.flash.medium ≡ mid.flash.medium → (IsTrue old.flash.medium.told → KeepsWritten found.area found.state old.flash.medium.bytes mid.flash.medium.bytes)
-    → IsTrue old.flash.medium.told → KeepsWritten found.area found.state old.flash.medium.bytes new.flash.medium.bytes
-kept_on found old mid new same kept told = subst (λ (m : FlashMedium). KeepsWritten found.area found.state old.flash.medium.bytes m.bytes) (sym same) (kept told)
+kept_on : (found : Found) (old mid new : World) → new.flash.medium ≡ mid.flash.medium → (IsTrue old.flash.medium.told → KeepsWritten found.map.nvram.at found.state old.flash.medium.bytes mid.flash.medium.bytes)
+    → IsTrue old.flash.medium.told → KeepsWritten found.map.nvram.at found.state old.flash.medium.bytes new.flash.medium.bytes
+kept_on found old mid new same kept told = subst (λ (m : FlashMedium). KeepsWritten found.map.nvram.at found.state old.flash.medium.bytes m.bytes) (sym same) (kept told)
 
 -- a fault in the locks
 pub finishes_unlocked : (found : Found) (plan : Plan) (old mid new : World) (count : ℕ) (fault : Fault) → count ≡ length (changes_of plan) → Makes found plan old mid (Ok count) → LocksAt plan.outcome count mid new (Err fault)
     → Finishes found plan old new (Err fault)
 finishes_unlocked found plan old mid new count fault is h k =
-    let to = targets_at found.area in
+    let to = targets_at found.map.nvram.at in
     let settled = still_settled 0 to found.state (changes_of plan) old mid (Ok count) h.carried in
     let locks : CarriesOut {T = Unit {0}} count to (fold state_with found.state (changes_of plan)) [] mid new (Err fault) = looks_carry count to (fold state_with found.state (changes_of plan)) mid new (Err fault) settled k.looks k.fault in
     record {
@@ -47,7 +47,7 @@ finishes_unlocked found plan old mid new count fault is h k =
 pub finishes_whole : (found : Found) (plan : Plan) (old mid new : World) (count : ℕ) → count ≡ length (changes_of plan) → Makes found plan old mid (Ok count) → LocksAt plan.outcome count mid new (Ok tt)
     → Finishes found plan old new (Ok plan.outcome)
 finishes_whole found plan old mid new count is h k =
-    let to = targets_at found.area in
+    let to = targets_at found.map.nvram.at in
     let settled = still_settled 0 to found.state (changes_of plan) old mid (Ok count) h.carried in
     let locks : CarriesOut {T = Unit {0}} count to (fold state_with found.state (changes_of plan)) [] mid new (Ok tt) = looks_carry count to (fold state_with found.state (changes_of plan)) mid new (Ok tt) settled k.looks tt in
     record {

@@ -10,7 +10,7 @@ use Rattle.board_core.specs.World.{World}
 use Rattle.board_core.proofs.TornRange.{grown_same}
 use Rattle.nvstore_core.specs.Saving.{SameBut}
 use Rattle.gpt_core.specs.Commits.{SameButCopies}
-use Rattle.boot_core.specs.Carries.{FrameFlash, FrameDisk, FrameStick, Frame}
+use Rattle.boot_core.specs.Carries.{SameDisk, FrameFlash, FrameDisk, FrameStick, Frame}
 
 -- ---- logs that grow
 
@@ -105,3 +105,17 @@ frame_stick_of a b settled same = record {
   bytes = λ told. ap (λ (m : DiskMedium). m.bytes) same;
   torn = λ told. ap (λ (m : DiskMedium). m.torn) same;
 }
+
+-- ---- disks that were only read
+
+pub frame_disk_looked : (a b : DiskMedium) → a.pending ≡ 0 → SameDisk a b → FrameDisk a b
+frame_disk_looked a b settled same = record {
+  sectors = same.sectors;
+  told = same.told;
+  none_pending = same.none_pending settled;
+  bytes = λ told. subst (SameButCopies a.sectors a.bytes) (sym (same.bytes told)) (record { size = refl; before = refl; between = refl });
+  torn = λ told. grown_of a.torn b.torn (same.torn told);
+}
+
+pub frame_stick_looked : (a b : DiskMedium) → a.pending ≡ 0 → SameDisk a b → FrameStick a b
+frame_stick_looked a b settled same = record { sectors = same.sectors; told = same.told; none_pending = same.none_pending settled; bytes = same.bytes; torn = same.torn }

@@ -1,4 +1,6 @@
 pub mod Frames
+pub mod Looking
+pub mod Verified
 pub mod Carried
 pub mod Fairness
 pub mod Prefix
@@ -6,4 +8,5 @@ pub mod Making
 pub mod Finishing
 pub mod Findings
 pub mod Whole
+pub mod Taken
 pub mod Aside

@@ -11,26 +11,26 @@ use Rattle.board_core.specs.declared.device.Space.TheVariants as space
 use Rattle.board_core.specs.declared.device.Fault.{Fault}
 use Rattle.board_core.specs.Counters.{Moved, MadeChanges, MadeStep, CountsFaults, Observed}
 use Rattle.board_core.specs.Torn.{Logs, Grown}
-use Rattle.board_core.specs.Fault.{same_device, is_fault_of}
+use Rattle.board_core.specs.Fault.{is_fault_of}
 use Rattle.board_core.specs.Flash.{FlashMedium, FlashState, range}
-use Rattle.board_core.specs.Disk.{DiskMedium, DiskState}
-use Rattle.board_core.specs.Hook.{HookState}
+use Rattle.board_core.specs.Disk.{DiskMedium}
 use Rattle.board_core.specs.Tpm.{TpmState, WritesSpace}
 use Rattle.board_core.specs.World.{World}
-use Rattle.board_core.proofs.Stops.{made_none, made_only_observed, step_cut, step_whole}
+use Rattle.board_core.proofs.Stops.{made_none, made_only_observed, rose_once, step_cut, step_whole}
 use Rattle.board_core.proofs.TornRange.{grown_same}
 use Rattle.nvstore_core.specs.declared.state.NvState.{NvState}
 use Rattle.nvstore_core.specs.Pages.{IsStateOf, bytes_with_record, calls_to_save}
 use Rattle.nvstore_core.specs.Saving.{Saves, KeepsWritten}
 use Rattle.gpt_core.specs.Format.{PartitionTable}
+use Rattle.gpt_core.specs.Tables.{table_in}
 use Rattle.boot_core.specs.Changes.{Change, Firmware, Record, counters_on, state_with}
-use Rattle.boot_core.specs.Carries.{Targets, IsSettled, CountsBoard, FrameFlash, Frame, MadeFlash, MadeDisk, IsMade, CarriesOut}
+use Rattle.boot_core.specs.Carries.{Targets, IsSettled, CountsBoard, SameDisk, FrameFlash, Frame, MadeFlash, MadeDisk, IsMade, CarriesOut}
 use Rattle.boot_core.specs.declared.found.Found.{Found}
 use Rattle.boot_core.specs.declared.plan.Plan.{Plan}
 use Rattle.boot_core.specs.Plan.{listed, targets_at}
-use Rattle.boot_core.specs.Steps.{IsBoardDevice, Looks, Makes}
+use Rattle.boot_core.specs.Steps.{Looks, Makes}
 use Rattle.boot_core.proofs.Carried.{carried_cut, carried_next}
-use Rattle.boot_core.proofs.Frames.{frame_flash_of, frame_disk_of, frame_stick_of}
+use Rattle.boot_core.proofs.Frames.{frame_flash_of, frame_disk_of, frame_stick_of, frame_disk_looked, frame_stick_looked}
 
 -- ---- counters
 
@@ -66,6 +66,13 @@ died_in a b n left keep armed was dead moved =
 disk_stays : (table : PartitionTable) (a b : DiskMedium) → b ≡ a → MadeDisk table [] a b
 disk_stays table a b same = subst (λ (m : DiskMedium). MadeDisk table [] a m) (sym same) (record { bytes = refl; stands = refl; torn = refl })
 
+disk_looked : (table : PartitionTable) (a b : DiskMedium) → SameDisk a b → IsTrue a.told → MadeDisk table [] a b
+disk_looked table a b same told = record {
+  bytes = same.bytes told;
+  stands = ap (λ (n : ℕ). table_in n b.bytes) same.sectors ∙ ap (table_in a.sectors) (same.bytes told);
+  torn = same.torn told;
+}
+
 flash_stays : (area : ℕ) (a b : FlashMedium) → b ≡ a → MadeFlash area [] a b
 flash_stays area a b same = subst (λ (m : FlashMedium). MadeFlash area [] a m) (sym same) (record { bytes = refl; stands = refl; torn = refl })
 
@@ -73,17 +80,17 @@ looks_made : {T : Type 0} (to : Targets) (old new : World) (result : Result T Fa
 looks_made to old new result h = record {
   flash = λ told. flash_stays to.area _ _ h.medium;
   spaces = λ told. h.spaces;
-  disk = λ told. disk_stays to.table _ _ (ap (λ (d : DiskState). d.medium) h.disk);
+  disk = λ told. disk_looked to.table _ _ h.same_disk told;
 }
 
 pub looks_frame : {T : Type 0} (area : ℕ) (old new : World) (result : Result T Fault) → IsSettled old → Looks old new result → Frame area old new
 looks_frame area old new result settled h = record {
   flash = frame_flash_of area _ _ h.medium;
   tpm_told = h.tpm_told;
-  disk = frame_disk_of _ _ settled.disk (ap (λ (d : DiskState). d.medium) h.disk);
-  stick = frame_stick_of _ _ settled.stick (ap (λ (d : DiskState). d.medium) h.stick);
-  hook_told = ap (λ (k : HookState). k.told) h.hook;
-  rows = ap (λ (k : HookState). k.rows) h.hook;
+  disk = frame_disk_looked _ _ settled.disk h.same_disk;
+  stick = frame_stick_looked _ _ settled.stick h.same_stick;
+  hook_told = h.hook.told;
+  rows = h.hook.rows;
   map_at = h.map_at;
 }
 
@@ -91,39 +98,23 @@ own_fault : {T : Type 0} (on : Device) (result : Result T Fault) → is_err resu
 own_fault on (Ok x) none = refl
 own_fault on (Err fault) none = absurd (false≢true (sym none))
 
--- a fault of the flash or of the TPM is none of another device
-no_other : (d : Device) → IsBoardDevice d → (same_device device.Disk d ≡ false) × (same_device device.Stick d ≡ false) × (same_device device.Hook d ≡ false)
-no_other device.Flash h = (refl, refl, refl)
-no_other device.Tpm h = (refl, refl, refl)
-no_other device.Disk h = absurd h
-no_other device.Stick h = absurd h
-no_other device.Hook h = absurd h
-
-others : {T : Type 0} (result : Result T Fault) → IfErr result (λ (fault : Fault). IsBoardDevice fault.device)
-    → (is_fault_of device.Disk result ≡ false) × (is_fault_of device.Stick result ≡ false) × (is_fault_of device.Hook result ≡ false)
-others (Ok x) h = (refl, refl, refl)
-others (Err fault) h = no_other fault.device h
-
 uncalled : (a b : Counters) (n : ℕ) (cut failed : Bool) → b ≡ a → n ≡ 0 → failed ≡ false → MadeStep a b n cut failed
 uncalled a b n cut failed same zero none = subst (λ (c : Counters). MadeStep a c n cut failed) (sym same) (subst (MadeStep a a n cut) (sym none) (idle a n cut zero))
 
 looks_counts : {T : Type 0} (old new : World) (result : Result T Fault) → Looks old new result → CountsBoard (λ (on : Device). 0) old new result
-looks_counts old new result h =
-    let other = others result h.device in
-    record {
-      flash = looked _ _ _ _ (own_fault device.Flash result) h.flash;
-      tpm = looked _ _ _ _ (own_fault device.Tpm result) h.tpm;
-      disk = uncalled _ _ 0 _ _ (ap (λ (d : DiskState). d.counters) h.disk) refl other.0;
-      stick = uncalled _ _ 0 _ _ (ap (λ (d : DiskState). d.counters) h.stick) refl other.1;
-      hook = subst (λ (n : ℕ). CountsFaults old.hook.faults n (is_fault_of device.Hook result)) (sym (ap (λ (k : HookState). k.faults) h.hook))
-          (subst (CountsFaults old.hook.faults old.hook.faults) (sym other.2) (no_faults old.hook.faults));
-    }
+looks_counts old new result h = record {
+  flash = looked _ _ _ _ (own_fault device.Flash result) h.flash;
+  tpm = looked _ _ _ _ (own_fault device.Tpm result) h.tpm;
+  disk = looked _ _ _ _ (own_fault device.Disk result) h.disk;
+  stick = looked _ _ _ _ (own_fault device.Stick result) h.stick;
+  hook = h.hook.faults;
+}
 
 looks_alive : {T : Type 0} (old new : World) (result : Result T Fault) → Looks old new result → (on : Device) → (counters_on on new).stop ≡ Dead → (counters_on on old).stop ≡ Dead
 looks_alive old new result h device.Flash dead = sym h.flash.stop ∙ dead
 looks_alive old new result h device.Tpm dead = sym h.tpm.stop ∙ dead
-looks_alive old new result h device.Disk dead = sym (ap (λ (d : DiskState). d.counters.stop) h.disk) ∙ dead
-looks_alive old new result h device.Stick dead = sym (ap (λ (d : DiskState). d.counters.stop) h.stick) ∙ dead
+looks_alive old new result h device.Disk dead = sym h.disk.stop ∙ dead
+looks_alive old new result h device.Stick dead = sym h.stick.stop ∙ dead
 looks_alive old new result h device.Hook dead = dead
 
 pub looks_carry : {T : Type 0} (base : ℕ) (to : Targets) (state : NvState) (old new : World) (result : Result T Fault) → IsSettled old → Looks old new result → IfErr result (λ (fault : Fault). fault.done ≡ base)
@@ -215,7 +206,7 @@ firmware_failed to state bytes w tpm e settled armed h = record {
     place = refl;
     done = refl;
     device = refl;
-    broke = h.counters.broke refl;
+    broke = rose_once _ _ (h.counters.broke refl);
     fell = λ left keep was dead. died_in w.tpm.counters.stop tpm.counters.stop 1 left keep armed was dead h.counters.made.stop;
     mid = w;
     mid_frame = frame_same to.area w settled;
@@ -326,18 +317,18 @@ still_settled base to state changes old new result h = record { disk = h.frame.d
 
 -- a fault in the write of the firmware space
 pub makes_cut : {T U : Type 0} (found : Found) (plan : Plan) (old new : World) (fault : Fault) → new.flash ≡ old.flash
-    → CarriesOut {T = T} 0 (targets_at found.area) found.state (listed Firmware plan.firmware) old new (Err fault) → Makes {T = U} found plan old new (Err fault)
+    → CarriesOut {T = T} 0 (targets_at found.map.nvram.at) found.state (listed Firmware plan.firmware) old new (Err fault) → Makes {T = U} found plan old new (Err fault)
 makes_cut found plan old new fault same h = record {
-  carried = carried_cut 0 (targets_at found.area) found.state (listed Firmware plan.firmware) (listed Record plan.nv) old new fault h;
-  kept = λ told. subst (λ (f : FlashState). KeepsWritten found.area found.state old.flash.medium.bytes f.medium.bytes) (sym same) (keeps_same found.area found.state old.flash.medium.bytes);
+  carried = carried_cut 0 (targets_at found.map.nvram.at) found.state (listed Firmware plan.firmware) (listed Record plan.nv) old new fault h;
+  kept = λ told. subst (λ (f : FlashState). KeepsWritten found.map.nvram.at found.state old.flash.medium.bytes f.medium.bytes) (sym same) (keeps_same found.map.nvram.at found.state old.flash.medium.bytes);
 }
 
 -- both changes, one after the other
 pub makes_both : {T U : Type 0} (found : Found) (plan : Plan) (old mid new : World) (first : T) (count : ℕ) (result : Result U Fault) → count ≡ length (listed Firmware plan.firmware) → mid.flash ≡ old.flash
-    → CarriesOut 0 (targets_at found.area) found.state (listed Firmware plan.firmware) old mid (Ok first)
-    → (IsTrue mid.flash.medium.told → KeepsWritten found.area found.state mid.flash.medium.bytes new.flash.medium.bytes)
-    → CarriesOut count (targets_at found.area) found.state (listed Record plan.nv) mid new result → Makes found plan old new result
+    → CarriesOut 0 (targets_at found.map.nvram.at) found.state (listed Firmware plan.firmware) old mid (Ok first)
+    → (IsTrue mid.flash.medium.told → KeepsWritten found.map.nvram.at found.state mid.flash.medium.bytes new.flash.medium.bytes)
+    → CarriesOut count (targets_at found.map.nvram.at) found.state (listed Record plan.nv) mid new result → Makes found plan old new result
 makes_both found plan old mid new first count result is same h kept k = record {
-  carried = carried_next 0 count (targets_at found.area) found.state found.state (listed Firmware plan.firmware) (listed Record plan.nv) old mid new first result (omega (arith, is)) h (sym (same_state plan.firmware found.state)) k;
-  kept = λ told. subst (λ (f : FlashState). KeepsWritten found.area found.state f.medium.bytes new.flash.medium.bytes) same (kept (subst (λ (f : FlashState). IsTrue f.medium.told) (sym same) told));
+  carried = carried_next 0 count (targets_at found.map.nvram.at) found.state found.state (listed Firmware plan.firmware) (listed Record plan.nv) old mid new first result (omega (arith, is)) h (sym (same_state plan.firmware found.state)) k;
+  kept = λ told. subst (λ (f : FlashState). KeepsWritten found.map.nvram.at found.state f.medium.bytes new.flash.medium.bytes) same (kept (subst (λ (f : FlashState). IsTrue f.medium.told) (sym same) told));
 }

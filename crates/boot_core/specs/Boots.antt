@@ -1,6 +1,12 @@
 -- What a boot does to its board.
-use Rattle.std.specs.Prelude.{◌≡◌, ◌⊎◌, ℕ, ◌+◌, ◌<◌, ◌≤◌, List, [], ◌∷◌, length, take, drop, fold, IsTrue, IsSome, Option, Some, None, Result, Ok, Err, IfOk, OnOk, IfErr}
+use Rattle.std.specs.Prelude.{◌≡◌, ◌⊎◌, ℕ, ◌+◌, ◌<◌, ◌≤◌, List, [], ◌∷◌, length, take, drop, fold, Bool, true, false, IsTrue, IsSome, Option, Some, None, Result, Ok, Err, IfOk, OnOk, IfErr}
 use Rattle.record_core.specs.Space.{firmware_fault, kernel_fault, stored_firmware_version, stored_kernel_version}
+use Rattle.fwsel_core.specs.declared.slot.Slot.{Slot}
+use Rattle.fwsel_core.specs.declared.boot_mode.Mode.{Mode}
+use Rattle.fwsel_core.specs.declared.boot_mode.Mode.TheVariants.{Normal, Developer}
+use Rattle.fwsel_core.specs.Mode.{mode_of}
+use Rattle.fwsel_core.specs.Selection.{selected_slot}
+use Rattle.chain_core.specs.Slot.{slot_fault, slot_ok}
 use Rattle.board_core.specs.declared.counters.FuseState.TheVariants.{Armed, Dead}
 use Rattle.board_core.specs.declared.device.Fault.{Fault}
 use Rattle.board_core.specs.Counters.{Rose}
@@ -20,7 +26,8 @@ use Rattle.gpt_core.specs.Format.{PartitionTable}
 use Rattle.gpt_core.specs.Tables.{table_in, IsFairDisk}
 use Rattle.boot_core.specs.Changes.{Change, Record, Table, spaces_with, record_with, table_with, device_of, counters_on, calls_on}
 use Rattle.boot_core.specs.Carries.{Targets, CountsBoard, Frame, IsMade}
-use Rattle.boot_core.specs.Plan.{found_of, plan_of, changes_of, targets_at}
+use Rattle.boot_core.specs.Slots.{slot_asked, HoldsFirmware}
+use Rattle.boot_core.specs.Plan.{found_of, facts_of, IsNoLower, plan_of, changes_of, targets_at}
 use Rattle.boot_core.specs.Steps.{locks_at}
 
 -- ---- the plan
@@ -34,18 +41,30 @@ pub record BootPlan : Type 0 where
 
 -- that of a plan over what was found
 abbrev pub boot_plan_of : Found → Plan → BootPlan
-boot_plan_of found plan = record { outcome = plan.outcome; changes = changes_of plan; to = targets_at found.area; state = found.state }
+boot_plan_of found plan = record { outcome = plan.outcome; changes = changes_of plan; to = targets_at found.map.nvram.at; state = found.state }
 
 -- that of a flash whose map has a fault: nothing is changed
 abbrev pub bad_flash_plan : MapFault → BootPlan
 bad_flash_plan fault = record { outcome = outcome.BadFlash fault; changes = []; to = targets_at 0; state = empty_state }
 
-abbrev pub boot_plan_by : Switches → Result Found MapFault → BootPlan
-boot_plan_by sw (Ok found) = boot_plan_of found (plan_of sw found)
-boot_plan_by sw (Err fault) = bad_flash_plan fault
+abbrev pub boot_plan_by : Switches → World → Result Found MapFault → BootPlan
+boot_plan_by sw w (Ok found) = boot_plan_of found (plan_of sw found w)
+boot_plan_by sw w (Err fault) = bad_flash_plan fault
 
 unfoldable pub boot_plan : Switches → World → BootPlan
-boot_plan sw w = boot_plan_by sw (found_of w)
+boot_plan sw w = boot_plan_by sw w (found_of w)
+
+-- the modes that boot a slot
+abbrev pub slot_mode : Bool → Mode
+slot_mode false = Normal
+slot_mode true = Developer
+
+-- A good slot is not refused: where the mode of a board boots a slot, and the table of the selected one finds no fault, the plan
+-- goes on with it.
+abbrev pub TakesGoodSlot : Type 0
+TakesGoodSlot = (sw : Switches) (w : World) (found : Found) (developer : Bool) → found_of w ≡ Ok found → mode_of (facts_of sw found) ≡ slot_mode developer
+    → let slot = selected_slot found.state.nv in let ok = slot_ok (slot_asked found slot w) in
+    slot_fault (slot_asked found slot w) ≡ None → (boot_plan sw w).outcome ≡ outcome.Verified developer slot ok.version ok.body_len
 
 -- ---- the state that a board stands for
 
@@ -134,12 +153,6 @@ pub record AtFault (plan : BootPlan) (fault : Fault) (old new : World) : Type 0 
 
 -- ---- versions
 
--- a version that stands is not lower, and stands
-abbrev pub IsNoLower : Option ℕ → Option ℕ → Type 0
-IsNoLower None now = Unit {0}
-IsNoLower (Some version) None = ⊥
-IsNoLower (Some version) (Some now) = version ≤ now
-
 -- Neither stored version falls, and a space that has a fault keeps its bytes.
 pub record NeverFall (old new : Spaces) : Type 0 where
   pub firmware : IsNoLower (stored_firmware_version old.firmware) (stored_firmware_version new.firmware)
@@ -147,10 +160,23 @@ pub record NeverFall (old new : Spaces) : Type 0 where
   pub faulty_firmware : IsSome (firmware_fault old.firmware) → new.firmware ≡ old.firmware
   pub faulty_kernel : IsSome (kernel_fault old.kernel) → new.kernel ≡ old.kernel
 
+-- ---- what is handed over
+
+-- The firmware that is handed over is that of the slot on this board: its chain from the root key is accepted, and where
+-- versions are checked it is no older than the stored one.
+pub record HandsFirmware (w : World) (slot : Slot) (version len : ℕ) (handed : List ℕ) : Type 0 where
+  pub found : Found
+  pub found_is : found_of w ≡ Ok found
+  pub holds : HoldsFirmware (slot_asked found slot w) version len handed
+
+abbrev pub HandsOver : World → List ℕ → Outcome → Type 0
+HandsOver w handed (outcome.Verified developer slot version len) = HandsFirmware w slot version len handed
+HandsOver w handed other = Unit {0}
+
 -- ---- a boot
 
--- One boot over a board.
-pub record Boots (sw : Switches) (old new : World) (answer : Result Outcome Fault) : Type 0 where
+-- One boot over a board. `handed` is the firmware that the room hands out after it.
+pub record Boots (sw : Switches) (old new : World) (handed : List ℕ) (answer : Result Outcome Fault) : Type 0 where
   -- its plan is that of the board, where the devices tell what they hold
   pub plan : BootPlan
   pub planned : IsTold old → plan ≡ boot_plan sw old
@@ -164,5 +190,7 @@ pub record Boots (sw : Switches) (old new : World) (answer : Result Outcome Faul
   pub made : OnOk answer (IsMade plan.to plan.changes old new)
   pub locks : IfOk answer (λ outcome. new.tpm.locks ≡ locks_at outcome)
   pub fault : IfErr answer (λ fault. AtFault plan fault old new)
+  -- where the boot goes on, the firmware that is handed over has the chain of its slot
+  pub hands : IsTold old → IfOk answer (HandsOver old handed)
   -- at every answer
   pub versions : IsTrue old.tpm.told → NeverFall old.tpm.spaces new.tpm.spaces

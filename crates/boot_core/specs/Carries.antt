@@ -57,6 +57,14 @@ pub record FrameDisk (old new : DiskMedium) : Type 0 where
   pub bytes : IsTrue old.told → SameButCopies old.sectors old.bytes new.bytes
   pub torn : IsTrue old.told → Grown old.torn new.torn
 
+-- a disk that is only read: all but the number of sectors read, and nothing is pending where nothing was
+pub record SameDisk (old new : DiskMedium) : Type 0 where
+  pub sectors : new.sectors ≡ old.sectors
+  pub told : new.told ≡ old.told
+  pub none_pending : old.pending ≡ 0 → new.pending ≡ 0
+  pub bytes : IsTrue old.told → new.bytes ≡ old.bytes
+  pub torn : IsTrue old.told → new.torn ≡ old.torn
+
 -- the stick but for the number of sectors read
 pub record FrameStick (old new : DiskMedium) : Type 0 where
   pub sectors : new.sectors ≡ old.sectors

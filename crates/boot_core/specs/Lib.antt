@@ -1,5 +1,6 @@
 pub mod Changes
 pub mod Carries
+pub mod Slots
 pub mod Plan
 pub mod Steps
 pub mod Boots

@@ -11,31 +11,36 @@ use crate::changing::make_changes;
 use crate::found::Found;
 use crate::locking::lock_at;
 use crate::outcome::Outcome;
-use crate::plan::{Plan, plan_boot};
+use crate::plan::Plan;
+use crate::planning::make_plan;
 use crate::reading::read_board;
+use crate::room::Room;
 use crate::switches::Switches;
 use board_core::{Disk, Fault, Flash, Hook, Platform, Tpm};
 
 /// Boots a board on whose disks nothing is pending. It takes no memory.
 ///
-/// Everything is read before anything is changed. The changes are those of the plan: first the firmware space, then the
-/// nvdata record. Both spaces are locked after the last change where the boot goes on, and left unlocked where it ends.
+/// Everything is read before anything is changed: what the devices hold, and in normal and developer mode the selected slot,
+/// which is verified in the room. The changes are those of the plan: first the firmware space, then the nvdata record. Both
+/// spaces are locked after the last change where the boot goes on, and left unlocked where it ends. Where it goes on, the room
+/// hands out the firmware.
 ///
 /// A `Fault` is the first call of a device that failed, and ends the boot: that device counted it. The changes that are
 /// counted as done are whole. The next one has happened or not; it has only where it is one of that device.
 pub fn boot<F: Flash, T: Tpm, D: Disk, E: Disk, H: Hook>(
     p: &mut Platform<F, T, D, E, H>,
+    room: &mut Room,
     sw: Switches,
 ) -> Result<Outcome, Fault>
     requires { IsSettled (world F.state T.state H.state p.old) }
-    ensures { Boots sw (world F.state T.state H.state p.old) (world F.state T.state H.state p.new) result }
+    ensures { Boots sw (world F.state T.state H.state p.old) (world F.state T.state H.state p.new) room.new.slot result }
 {
     let found = match read_board(p) {
         Ok(Ok(found)) => found,
         Ok(Err(fault)) => return Ok(Outcome::BadFlash(fault)),
         Err(fault) => return Err(fault),
     };
-    let plan = plan_boot(sw, &found);
+    let plan = make_plan(p, room, sw, &found)?;
     carry_out(p, &found, &plan)
 }
 
@@ -47,8 +52,9 @@ fn carry_out<F: Flash, T: Tpm, D: Disk, E: Disk, H: Hook>(
 ) -> Result<Outcome, Fault>
     requires settled { IsSettled (world F.state T.state H.state p.old) }
     requires unlocked { (world F.state T.state H.state p.old).tpm.locks ≡ unlocked }
-    requires area { IsAreaIn (world F.state T.state H.state p.old).flash.medium.size found.now.area }
-    requires state { IsTrue (world F.state T.state H.state p.old).flash.medium.told → IsStateOf found.now.area (world F.state T.state H.state p.old).flash.medium.bytes found.now.state }
+    requires area { IsAreaIn (world F.state T.state H.state p.old).flash.medium.size found.now.map.nvram.at }
+    requires state { IsTrue (world F.state T.state H.state p.old).flash.medium.told → IsStateOf found.now.map.nvram.at
+        (world F.state T.state H.state p.old).flash.medium.bytes found.now.state }
     requires within { InRange found.now.state }
     ensures { Finishes found.now plan.now (world F.state T.state H.state p.old) (world F.state T.state H.state p.new) result }
 {

@@ -24,7 +24,8 @@ fn write_firmware<F: Flash, T: Tpm, D: Disk, E: Disk, H: Hook>(
 ) -> Result<u8, Fault>
     requires settled { IsSettled (world F.state T.state H.state p.old) }
     requires unlocked { is_locked space.Firmware (world F.state T.state H.state p.old).tpm.locks ≡ false }
-    ensures carried { (to : Targets) (state : NvState) → CarriesOut 0 to state (listed Firmware change.now) (world F.state T.state H.state p.old) (world F.state T.state H.state p.new) result }
+    ensures carried { (to : Targets) (state : NvState) → CarriesOut 0 to state (listed Firmware change.now)
+        (world F.state T.state H.state p.old) (world F.state T.state H.state p.new) result }
     ensures count { IfOk result (λ count. count ≡ length (listed Firmware change.now)) }
     ensures locks { (world F.state T.state H.state p.new).tpm.locks ≡ (world F.state T.state H.state p.old).tpm.locks }
     ensures flash { (world F.state T.state H.state p.new).flash ≡ (world F.state T.state H.state p.old).flash }
@@ -51,11 +52,14 @@ fn store_record<F: Flash, T: Tpm, D: Disk, E: Disk, H: Hook>(
 ) -> Result<u8, Fault>
     requires settled { IsSettled (world F.state T.state H.state p.old) }
     requires area { IsAreaIn (world F.state T.state H.state p.old).flash.medium.size area }
-    requires state { IsTrue (world F.state T.state H.state p.old).flash.medium.told → IsStateOf area (world F.state T.state H.state p.old).flash.medium.bytes state.old }
+    requires state { IsTrue (world F.state T.state H.state p.old).flash.medium.told → IsStateOf area
+        (world F.state T.state H.state p.old).flash.medium.bytes state.old }
     requires within { InRange state.old }
     requires few { done ≤ 3 }
-    ensures carried { CarriesOut done (targets_at area) state.old (listed Record change.now) (world F.state T.state H.state p.old) (world F.state T.state H.state p.new) result }
-    ensures kept { IsTrue (world F.state T.state H.state p.old).flash.medium.told → KeepsWritten area state.old (world F.state T.state H.state p.old).flash.medium.bytes (world F.state T.state H.state p.new).flash.medium.bytes }
+    ensures carried { CarriesOut done (targets_at area) state.old (listed Record change.now) (world F.state T.state H.state p.old)
+        (world F.state T.state H.state p.new) result }
+    ensures kept { IsTrue (world F.state T.state H.state p.old).flash.medium.told → KeepsWritten area state.old
+        (world F.state T.state H.state p.old).flash.medium.bytes (world F.state T.state H.state p.new).flash.medium.bytes }
     ensures count { IfOk result (λ count. count ≡ done + length (listed Record change.now)) }
     ensures state { OnOk result (state.new ≡ fold state_with state.old (listed Record change.now)) }
     ensures locks { (world F.state T.state H.state p.new).tpm.locks ≡ (world F.state T.state H.state p.old).tpm.locks }
@@ -82,8 +86,9 @@ pub fn make_changes<F: Flash, T: Tpm, D: Disk, E: Disk, H: Hook>(
 ) -> Result<u8, Fault>
     requires settled { IsSettled (world F.state T.state H.state p.old) }
     requires unlocked { is_locked space.Firmware (world F.state T.state H.state p.old).tpm.locks ≡ false }
-    requires area { IsAreaIn (world F.state T.state H.state p.old).flash.medium.size found.now.area }
-    requires state { IsTrue (world F.state T.state H.state p.old).flash.medium.told → IsStateOf found.now.area (world F.state T.state H.state p.old).flash.medium.bytes found.now.state }
+    requires area { IsAreaIn (world F.state T.state H.state p.old).flash.medium.size found.now.map.nvram.at }
+    requires state { IsTrue (world F.state T.state H.state p.old).flash.medium.told → IsStateOf found.now.map.nvram.at
+        (world F.state T.state H.state p.old).flash.medium.bytes found.now.state }
     requires within { InRange found.now.state }
     ensures makes { Makes found.now plan.now (world F.state T.state H.state p.old) (world F.state T.state H.state p.new) result }
     ensures count { IfOk result (λ count. count ≡ length (changes_of plan.now)) }
@@ -91,5 +96,5 @@ pub fn make_changes<F: Flash, T: Tpm, D: Disk, E: Disk, H: Hook>(
 {
     let mut state = found.state;
     let first = write_firmware(p, &plan.firmware)?;
-    store_record(p, found.area, &mut state, &plan.nv, first)
+    store_record(p, found.map.nvram.at, &mut state, &plan.nv, first)
 }

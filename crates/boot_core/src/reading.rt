@@ -11,8 +11,8 @@ use nvstore_core::load;
 use record_core::{FwSpace, KernelSpace, SpaceFault};
 use rom_core::{Map, MapFault, read_gbb, read_map};
 
-// A fault of a device before any change.
-fn fault_of(device: Device) -> Fault
+/// A fault of a device before any change.
+pub fn fault_of(device: Device) -> Fault
     ensures { result ≡ record { device = device; done = 0 } }
 {
     Fault { device, done: 0 }
@@ -60,7 +60,7 @@ fn read_found<F: Flash, T: Tpm, D: Disk, E: Disk, H: Hook>(
         return Err(fault_of(Device::Tpm));
     };
     Ok(Found {
-        area: map.nvram.at,
+        map: *map,
         state,
         gbb,
         firmware,

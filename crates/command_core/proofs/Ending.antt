@@ -1,5 +1,5 @@
 -- What a user reads from the exit status of a boot.
-use Rattle.std.proofs.Common.{◌≡◌, ◌⊎◌, ℕ, Bool, true, false, Result, Ok, Err, refl, sym, ap, subst, ◌∙◌, arith, inl, inr, ◌≤◌}
+use Rattle.std.proofs.Common.{◌≡◌, ◌⊎◌, ℕ, List, Bool, true, false, Result, Ok, Err, refl, sym, ap, subst, ◌∙◌, arith, inl, inr, ◌≤◌}
 use Rattle.std.specs.Prelude.{IsTrue}
 use Rattle.std.proofs.lemmas.Bool.{eq-eqb, ne_eqb}
 use Rattle.board_core.specs.declared.counters.Counters.{Counters}
@@ -10,20 +10,21 @@ use Rattle.board_core.specs.Counters.{raised, CountsFaults, Observed, MadeStep}
 use Rattle.board_core.specs.Flash.{FlashMedium}
 use Rattle.board_core.specs.Tpm.{TpmState, unlocked}
 use Rattle.board_core.specs.Fault.{same_device}
+use Rattle.board_core.specs.Hook.{HookState}
 use Rattle.board_core.specs.Streams.{StreamState}
 use Rattle.board_core.specs.World.{World}
 use Rattle.boot_core.specs.declared.outcome.Outcome.{Outcome}
 use Rattle.boot_core.specs.declared.outcome.Outcome.TheVariants as outcome
 use Rattle.boot_core.specs.declared.switches.Switches.{Switches}
 use Rattle.boot_core.specs.Steps.{both_locked, locks_at}
-use Rattle.boot_core.specs.Boots.{BootPlan, IsTold, NeverFall}
-use Rattle.boot_core.proofs.Whole.{plan_same, never_same}
+use Rattle.boot_core.specs.Boots.{BootPlan, IsTold, HandsOver}
+use Rattle.boot_core.proofs.Whole.{plan_same, hands_same, never_same}
 use Rattle.command_core.specs.declared.answer.Answer.{Answer}
 use Rattle.command_core.specs.declared.answer.Answer.TheVariants as answers
 use Rattle.command_core.specs.declared.answer.Status.{Status}
 use Rattle.command_core.specs.Answers.{device_code, outcome_code, code_of}
 use Rattle.command_core.specs.Prints.{Prints}
-use Rattle.command_core.specs.Booting.{IsUnlocated, BootsLocated, BootWorks, BootRuns, FailedOnce, NeverFailed, IsNoFault, EndsPlanned, BootEnds}
+use Rattle.command_core.specs.Booting.{IsUnlocated, BootsLocated, BootWorks, BootRuns, FailedOnce, NeverFailed, IsNoFault, IsLocated, EndsVerified, EndsPlanned, BootEnds}
 
 -- ---- what was counted
 
@@ -44,31 +45,55 @@ code_is answer put put' status prints n other is = sym (prints.code (λ nine. ot
 -- ---- a boot that came to an outcome
 
 no_fault_code : (o : Outcome) → (outcome_code o ≡ 5 → ⊥) × (outcome_code o ≡ 6 → ⊥)
-no_fault_code (outcome.Selected d s) = (λ is. absurd (omega arith), λ is. absurd (omega arith))
+no_fault_code (outcome.Verified d s v l) = (λ is. absurd (omega arith), λ is. absurd (omega arith))
+no_fault_code (outcome.Reboot r s q) = (λ is. absurd (omega arith), λ is. absurd (omega arith))
 no_fault_code (outcome.Screen r s) = (λ is. absurd (omega arith), λ is. absurd (omega arith))
 no_fault_code outcome.ManualRecovery = (λ is. absurd (omega arith), λ is. absurd (omega arith))
 no_fault_code (outcome.BadFlash f) = (λ is. absurd (omega arith), λ is. absurd (omega arith))
 
 no_other_code : (o : Outcome) → (outcome_code o ≡ 7 → ⊥) × (outcome_code o ≡ 8 → ⊥) × (outcome_code o ≡ 1 → ⊥)
-no_other_code (outcome.Selected d s) = (λ is. absurd (omega arith), λ is. absurd (omega arith), λ is. absurd (omega arith))
+no_other_code (outcome.Verified d s v l) = (λ is. absurd (omega arith), λ is. absurd (omega arith), λ is. absurd (omega arith))
+no_other_code (outcome.Reboot r s q) = (λ is. absurd (omega arith), λ is. absurd (omega arith), λ is. absurd (omega arith))
 no_other_code (outcome.Screen r s) = (λ is. absurd (omega arith), λ is. absurd (omega arith), λ is. absurd (omega arith))
 no_other_code outcome.ManualRecovery = (λ is. absurd (omega arith), λ is. absurd (omega arith), λ is. absurd (omega arith))
 no_other_code (outcome.BadFlash f) = (λ is. absurd (omega arith), λ is. absurd (omega arith), λ is. absurd (omega arith))
 
+no_memory_code : (o : Outcome) → outcome_code o ≡ 15 → ⊥
+no_memory_code (outcome.Verified d s v l) is = absurd (omega arith)
+no_memory_code (outcome.Reboot r s q) is = absurd (omega arith)
+no_memory_code (outcome.Screen r s) is = absurd (omega arith)
+no_memory_code outcome.ManualRecovery is = absurd (omega arith)
+no_memory_code (outcome.BadFlash f) is = absurd (omega arith)
+
 locked_at : (o : Outcome) → outcome_code o ≡ 0 → locks_at o ≡ both_locked
-locked_at (outcome.Selected d s) is = refl
+locked_at (outcome.Verified d s v l) is = refl
+locked_at (outcome.Reboot r s q) is = absurd (omega arith)
 locked_at (outcome.Screen r s) is = absurd (omega arith)
 locked_at outcome.ManualRecovery is = absurd (omega arith)
 locked_at (outcome.BadFlash f) is = absurd (omega arith)
 
 unlocked_at : (o : Outcome) → (outcome_code o ≡ 0 → ⊥) → locks_at o ≡ unlocked
-unlocked_at (outcome.Selected d s) other = absurd (other refl)
+unlocked_at (outcome.Verified d s v l) other = absurd (other refl)
+unlocked_at (outcome.Reboot r s q) other = refl
 unlocked_at (outcome.Screen r s) other = refl
 unlocked_at outcome.ManualRecovery other = refl
 unlocked_at (outcome.BadFlash f) other = refl
 
 told_on : (sw : Switches) (old new : World) (o : Outcome) (b : BootsLocated sw old new (Ok o)) → IsTold old → IsTold (record old { flash = b.flash; map_at = b.at })
 told_on sw old new o b told = record { flash = subst (λ (m : FlashMedium). IsTrue m.told) (sym b.locates.medium) told.flash; tpm = told.tpm; disk = told.disk; stick = told.stick; hook = told.hook }
+
+-- at status 0 firmware is handed over
+hands_verified : (old : World) (at : ℕ) (handed : List ℕ) (o : Outcome) → IsLocated old.flash.medium at → outcome_code o ≡ 0 → HandsOver (record old { map_at = at }) handed o → EndsVerified old
+hands_verified old at handed (outcome.Verified d s v l) located zero hands = record { at = at; located = located; slot = s; version = v; len = l; handed = handed; hands = hands }
+hands_verified old at handed (outcome.Reboot r s q) located zero hands = absurd (omega arith)
+hands_verified old at handed (outcome.Screen r s) located zero hands = absurd (omega arith)
+hands_verified old at handed outcome.ManualRecovery located zero hands = absurd (omega arith)
+hands_verified old at handed (outcome.BadFlash f) located zero hands = absurd (omega arith)
+
+verified_at : (sw : Switches) (old new : World) (o : Outcome) (b : BootsLocated sw old new (Ok o)) → IsTold old → outcome_code o ≡ 0 → EndsVerified old
+verified_at sw old new o b told zero =
+    hands_verified old b.at b.handed o (b.locates.place told.flash) zero
+    (hands_same (record old { map_at = b.at }) (record old { flash = b.flash; map_at = b.at }) b.handed o refl b.locates.medium refl refl (b.boots.hands (told_on sw old new o b told)))
 
 ends_booted : (sw : Switches) (old new : World) (put put' : StreamState) (status : Status) (o : Outcome) → BootsLocated sw old new (Ok o) → Prints (answers.Booted o) put put' status → BootEnds sw old new put put' status
 ends_booted sw old new put put' status o b prints =
@@ -78,26 +103,36 @@ ends_booted sw old new put put' status o b prints =
         at = b.at;
         located = b.locates.place told.flash;
         code = prints.code none.sink ∙ ap outcome_code (b.boots.outcome ∙ ap (λ (p : BootPlan). p.outcome) (b.boots.planned (told_on sw old new o b told)
-            ∙ plan_same sw (record old { map_at = b.at }) (record old { flash = b.flash; map_at = b.at }) refl b.locates.medium refl));
+            ∙ plan_same sw (record old { map_at = b.at }) (record old { flash = b.flash; map_at = b.at }) refl b.locates.medium refl refl));
       };
-      flash_fault = λ is. absurd ((no_fault_code o).0 (of_code 5 (λ e. absurd (omega arith)) is));
-      tpm_fault = λ is. absurd ((no_fault_code o).1 (of_code 6 (λ e. absurd (omega arith)) is));
-      drive_fault = λ is. absurd ((no_other_code o).0 (of_code 7 (λ e. absurd (omega arith)) is));
-      hook_fault = λ is. absurd ((no_other_code o).1 (of_code 8 (λ e. absurd (omega arith)) is));
+      verified = λ told zero. verified_at sw old new o b told (of_code 0 (λ e. absurd (omega arith)) zero);
+      faults = record {
+        flash_fault = λ is. absurd ((no_fault_code o).0 (of_code 5 (λ e. absurd (omega arith)) is));
+        tpm_fault = λ is. absurd ((no_fault_code o).1 (of_code 6 (λ e. absurd (omega arith)) is));
+        drive_fault = λ is. absurd ((no_other_code o).0 (of_code 7 (λ e. absurd (omega arith)) is));
+        hook_fault = λ is. absurd ((no_other_code o).1 (of_code 8 (λ e. absurd (omega arith)) is));
+        sink_fault = λ is. prints.faults.cause (eq-eqb status.code 9 is);
+        no_flash_fault = λ a b'. never_failed _ _ _ _ _ b.locates.counters b.boots.counts.flash;
+        no_tpm_fault = λ a b'. b.boots.counts.tpm.made.no_fault refl;
+        no_hook_fault = λ a b'. b.boots.counts.hook.no_fault refl;
+        no_sink_fault = λ other. prints.faults.no_fault (ne_eqb status.code 9 other);
+      };
+      locks = record {
+        locked = λ is. b.boots.locks ∙ locked_at o (of_code 0 (λ e. absurd (omega arith)) is);
+        left_unlocked = λ is. b.boots.locks ∙ unlocked_at o (λ zero.
+            elim is [
+              | inl two ↦ let code = of_code 2 (λ e. absurd (omega arith)) two in absurd (omega arith)
+              | inr more ↦ elim more [
+                | inl three ↦ let code = of_code 3 (λ e. absurd (omega arith)) three in absurd (omega arith)
+                | inr rest ↦ elim rest [
+                  | inl eleven ↦ let code = of_code 11 (λ e. absurd (omega arith)) eleven in absurd (omega arith)
+                  | inr last ↦ let code = of_code 19 (λ e. absurd (omega arith)) last in absurd (omega arith)
+                ]
+              ]
+            ]);
+      };
+      no_memory = λ is. absurd (no_memory_code o (of_code 15 (λ e. absurd (omega arith)) is));
       not_usage = λ is. (no_other_code o).2 (of_code 1 (λ e. absurd (omega arith)) is);
-      sink_fault = λ is. prints.faults.cause (eq-eqb status.code 9 is);
-      no_flash_fault = λ a b'. never_failed _ _ _ _ _ b.locates.counters b.boots.counts.flash;
-      no_tpm_fault = λ a b'. b.boots.counts.tpm.made.no_fault refl;
-      no_sink_fault = λ other. prints.faults.no_fault (ne_eqb status.code 9 other);
-      locked = λ is. b.boots.locks ∙ locked_at o (of_code 0 (λ e. absurd (omega arith)) is);
-      left_unlocked = λ is. b.boots.locks ∙ unlocked_at o (λ zero.
-          elim is [
-            | inl three ↦ let code = of_code 3 (λ e. absurd (omega arith)) three in absurd (omega arith)
-            | inr rest ↦ elim rest [
-              | inl eleven ↦ let code = of_code 11 (λ e. absurd (omega arith)) eleven in absurd (omega arith)
-              | inr last ↦ let code = of_code 19 (λ e. absurd (omega arith)) last in absurd (omega arith)
-            ]
-          ]);
       versions = b.boots.versions;
     }
 
@@ -146,6 +181,13 @@ hook_by device.Disk a b h is = absurd (omega arith)
 hook_by device.Stick a b h is = absurd (omega arith)
 hook_by device.Hook a b h is = h.cause refl
 
+hook_never : (d : Device) (a b : ℕ) → CountsFaults a b (same_device device.Hook d) → (device_code d ≡ 8 → ⊥) → b ≡ a
+hook_never device.Flash a b h other = h.no_fault refl
+hook_never device.Tpm a b h other = h.no_fault refl
+hook_never device.Disk a b h other = h.no_fault refl
+hook_never device.Stick a b h other = h.no_fault refl
+hook_never device.Hook a b h other = absurd (other refl)
+
 ends_faulted : (sw : Switches) (old new : World) (put put' : StreamState) (status : Status) (fault : Fault) → BootsLocated sw old new (Err fault) → Prints (answers.Faulted fault) put put' status → BootEnds sw old new put put' status
 ends_faulted sw old new put put' status fault b prints =
     let of_code : (n : ℕ) → (n ≡ 9 → ⊥) → status.code ≡ n → device_code fault.device ≡ n = code_is (answers.Faulted fault) put put' status prints in
@@ -154,24 +196,34 @@ ends_faulted sw old new put put' status fault b prints =
     let tpm = tpm_by fault.device _ _ _ b.boots.counts.tpm in
     record {
       planned = λ told none. absurd (is_fault fault.device status (prints.code none.sink) none);
-      flash_fault = λ is. flash.0 (of_code 5 (λ e. absurd (omega arith)) is);
-      tpm_fault = λ is. tpm.0 (of_code 6 (λ e. absurd (omega arith)) is);
-      drive_fault = λ is. drive_by fault.device _ _ _ _ _ _ b.boots.counts.disk b.boots.counts.stick (of_code 7 (λ e. absurd (omega arith)) is);
-      hook_fault = λ is. hook_by fault.device _ _ b.boots.counts.hook (of_code 8 (λ e. absurd (omega arith)) is);
+      verified = λ told zero. let code = of_code 0 (λ e. absurd (omega arith)) zero in absurd (omega (arith, range.0));
+      faults = record {
+        flash_fault = λ is. flash.0 (of_code 5 (λ e. absurd (omega arith)) is);
+        tpm_fault = λ is. tpm.0 (of_code 6 (λ e. absurd (omega arith)) is);
+        drive_fault = λ is. drive_by fault.device _ _ _ _ _ _ b.boots.counts.disk b.boots.counts.stick (of_code 7 (λ e. absurd (omega arith)) is);
+        hook_fault = λ is. hook_by fault.device _ _ b.boots.counts.hook (of_code 8 (λ e. absurd (omega arith)) is);
+        sink_fault = λ is. prints.faults.cause (eq-eqb status.code 9 is);
+        no_flash_fault = λ other nine. flash.1 (λ is. other (prints.code nine ∙ is));
+        no_tpm_fault = λ other nine. tpm.1 (λ is. other (prints.code nine ∙ is));
+        no_hook_fault = λ other nine. hook_never fault.device _ _ b.boots.counts.hook (λ is. other (prints.code nine ∙ is));
+        no_sink_fault = λ other. prints.faults.no_fault (ne_eqb status.code 9 other);
+      };
+      locks = record {
+        locked = λ is. let code = of_code 0 (λ e. absurd (omega arith)) is in absurd (omega (arith, range.0));
+        left_unlocked = λ is.
+            absurd (elim is [
+              | inl two ↦ let code = of_code 2 (λ e. absurd (omega arith)) two in omega (arith, range.0)
+              | inr more ↦ elim more [
+                | inl three ↦ let code = of_code 3 (λ e. absurd (omega arith)) three in omega (arith, range.0)
+                | inr rest ↦ elim rest [
+                  | inl eleven ↦ let code = of_code 11 (λ e. absurd (omega arith)) eleven in omega (arith, range.1)
+                  | inr last ↦ let code = of_code 19 (λ e. absurd (omega arith)) last in omega (arith, range.1)
+                ]
+              ]
+            ]);
+      };
+      no_memory = λ is. let code = of_code 15 (λ e. absurd (omega arith)) is in absurd (omega (arith, range.1));
       not_usage = λ is. let code = of_code 1 (λ e. absurd (omega arith)) is in omega (arith, range.0);
-      sink_fault = λ is. prints.faults.cause (eq-eqb status.code 9 is);
-      no_flash_fault = λ other nine. flash.1 (λ is. other (prints.code nine ∙ is));
-      no_tpm_fault = λ other nine. tpm.1 (λ is. other (prints.code nine ∙ is));
-      no_sink_fault = λ other. prints.faults.no_fault (ne_eqb status.code 9 other);
-      locked = λ is. let code = of_code 0 (λ e. absurd (omega arith)) is in absurd (omega (arith, range.0));
-      left_unlocked = λ is.
-          absurd (elim is [
-            | inl three ↦ let code = of_code 3 (λ e. absurd (omega arith)) three in omega (arith, range.0)
-            | inr rest ↦ elim rest [
-              | inl eleven ↦ let code = of_code 11 (λ e. absurd (omega arith)) eleven in omega (arith, range.1)
-              | inr last ↦ let code = of_code 19 (λ e. absurd (omega arith)) last in omega (arith, range.1)
-            ]
-          ]);
       versions = b.boots.versions;
     }
 
@@ -182,25 +234,73 @@ ends_unlocated sw old new put put' status h prints =
     let of_code : (n : ℕ) → (n ≡ 9 → ⊥) → status.code ≡ n → 5 ≡ n = code_is (answers.Failed device.Flash) put put' status prints in
     record {
       planned = λ told none. absurd (none.flash (prints.code none.sink));
-      flash_fault = λ is. h.counters.cause refl;
-      tpm_fault = λ is. let code = of_code 6 (λ e. absurd (omega arith)) is in absurd (omega arith);
-      drive_fault = λ is. let code = of_code 7 (λ e. absurd (omega arith)) is in absurd (omega arith);
-      hook_fault = λ is. let code = of_code 8 (λ e. absurd (omega arith)) is in absurd (omega arith);
+      verified = λ told zero. let code = of_code 0 (λ e. absurd (omega arith)) zero in absurd (omega arith);
+      faults = record {
+        flash_fault = λ is. h.counters.cause refl;
+        tpm_fault = λ is. let code = of_code 6 (λ e. absurd (omega arith)) is in absurd (omega arith);
+        drive_fault = λ is. let code = of_code 7 (λ e. absurd (omega arith)) is in absurd (omega arith);
+        hook_fault = λ is. let code = of_code 8 (λ e. absurd (omega arith)) is in absurd (omega arith);
+        sink_fault = λ is. prints.faults.cause (eq-eqb status.code 9 is);
+        no_flash_fault = λ other nine. absurd (other (prints.code nine));
+        no_tpm_fault = λ other nine. ap (λ (t : TpmState). t.counters.faults) h.tpm;
+        no_hook_fault = λ other nine. ap (λ (k : HookState). k.faults) h.hook;
+        no_sink_fault = λ other. prints.faults.no_fault (ne_eqb status.code 9 other);
+      };
+      locks = record {
+        locked = λ is. let code = of_code 0 (λ e. absurd (omega arith)) is in absurd (omega arith);
+        left_unlocked = λ is.
+            absurd (elim is [
+              | inl two ↦ let code = of_code 2 (λ e. absurd (omega arith)) two in omega arith
+              | inr more ↦ elim more [
+                | inl three ↦ let code = of_code 3 (λ e. absurd (omega arith)) three in omega arith
+                | inr rest ↦ elim rest [
+                  | inl eleven ↦ let code = of_code 11 (λ e. absurd (omega arith)) eleven in omega arith
+                  | inr last ↦ let code = of_code 19 (λ e. absurd (omega arith)) last in omega arith
+                ]
+              ]
+            ]);
+      };
+      no_memory = λ is. let code = of_code 15 (λ e. absurd (omega arith)) is in absurd (omega arith);
       not_usage = λ is. let code = of_code 1 (λ e. absurd (omega arith)) is in omega arith;
-      sink_fault = λ is. prints.faults.cause (eq-eqb status.code 9 is);
-      no_flash_fault = λ other nine. absurd (other (prints.code nine));
-      no_tpm_fault = λ other nine. ap (λ (t : TpmState). t.counters.faults) h.tpm;
-      no_sink_fault = λ other. prints.faults.no_fault (ne_eqb status.code 9 other);
-      locked = λ is. let code = of_code 0 (λ e. absurd (omega arith)) is in absurd (omega arith);
-      left_unlocked = λ is.
-          absurd (elim is [
-            | inl three ↦ let code = of_code 3 (λ e. absurd (omega arith)) three in omega arith
-            | inr rest ↦ elim rest [
-              | inl eleven ↦ let code = of_code 11 (λ e. absurd (omega arith)) eleven in omega arith
-              | inr last ↦ let code = of_code 19 (λ e. absurd (omega arith)) last in omega arith
-            ]
-          ]);
       versions = λ told. never_same old.tpm.spaces new.tpm.spaces (ap (λ (t : TpmState). t.spaces) h.tpm);
+    }
+
+-- ---- want of memory, before the first call of a device
+
+ends_full : (sw : Switches) (old new : World) (put put' : StreamState) (status : Status) → new ≡ old → Prints answers.OutOfMemory put put' status → BootEnds sw old new put put' status
+ends_full sw old new put put' status same prints =
+    let of_code : (n : ℕ) → (n ≡ 9 → ⊥) → status.code ≡ n → 15 ≡ n = code_is answers.OutOfMemory put put' status prints in
+    record {
+      planned = λ told none. absurd (none.memory (prints.code none.sink));
+      verified = λ told zero. let code = of_code 0 (λ e. absurd (omega arith)) zero in absurd (omega arith);
+      faults = record {
+        flash_fault = λ is. let code = of_code 5 (λ e. absurd (omega arith)) is in absurd (omega arith);
+        tpm_fault = λ is. let code = of_code 6 (λ e. absurd (omega arith)) is in absurd (omega arith);
+        drive_fault = λ is. let code = of_code 7 (λ e. absurd (omega arith)) is in absurd (omega arith);
+        hook_fault = λ is. let code = of_code 8 (λ e. absurd (omega arith)) is in absurd (omega arith);
+        sink_fault = λ is. prints.faults.cause (eq-eqb status.code 9 is);
+        no_flash_fault = λ other nine. ap (λ (w : World). w.flash.counters.faults) same;
+        no_tpm_fault = λ other nine. ap (λ (w : World). w.tpm.counters.faults) same;
+        no_hook_fault = λ other nine. ap (λ (w : World). w.hook.faults) same;
+        no_sink_fault = λ other. prints.faults.no_fault (ne_eqb status.code 9 other);
+      };
+      locks = record {
+        locked = λ is. let code = of_code 0 (λ e. absurd (omega arith)) is in absurd (omega arith);
+        left_unlocked = λ is.
+            absurd (elim is [
+              | inl two ↦ let code = of_code 2 (λ e. absurd (omega arith)) two in omega arith
+              | inr more ↦ elim more [
+                | inl three ↦ let code = of_code 3 (λ e. absurd (omega arith)) three in omega arith
+                | inr rest ↦ elim rest [
+                  | inl eleven ↦ let code = of_code 11 (λ e. absurd (omega arith)) eleven in omega arith
+                  | inr last ↦ let code = of_code 19 (λ e. absurd (omega arith)) last in omega arith
+                ]
+              ]
+            ]);
+      };
+      no_memory = λ is. same;
+      not_usage = λ is. let code = of_code 1 (λ e. absurd (omega arith)) is in omega arith;
+      versions = λ told. never_same old.tpm.spaces new.tpm.spaces (ap (λ (w : World). w.tpm.spaces) same);
     }
 
 ends_by : (sw : Switches) (old new : World) (put put' : StreamState) (status : Status) (answer : Answer) → BootWorks sw old new answer → Prints answer put put' status → BootEnds sw old new put put' status
@@ -215,7 +315,7 @@ ends_by sw old new put put' status answers.Usage works prints = absurd works
 ends_by sw old new put put' status (answers.BadFlash fault) works prints = absurd works
 ends_by sw old new put put' status (answers.WrongSize d) works prints = absurd works
 ends_by sw old new put put' status answers.HookFull works prints = absurd works
-ends_by sw old new put put' status answers.OutOfMemory works prints = absurd works
+ends_by sw old new put put' status answers.OutOfMemory works prints = ends_full sw old new put put' status works prints
 ends_by sw old new put put' status (answers.Unopened fault) works prints = absurd works
 
 pub ends_of : (sw : Switches) (old new : World) (put put' : StreamState) (status : Status) → BootRuns sw old new put put' status → BootEnds sw old new put put' status

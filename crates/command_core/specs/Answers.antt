@@ -8,6 +8,7 @@ use Rattle.board_file.specs.declared.open_fault.OpenFault.TheVariants.{CannotOpe
 use Rattle.board_file.specs.Files.{file_name}
 use Rattle.rom_core.specs.declared.fault.MapFault.{MapFault}
 use Rattle.rom_core.specs.Faults.{map_fault_number}
+use Rattle.text_core.specs.Numbers.{hex_number}
 use Rattle.boot_core.specs.declared.outcome.Outcome.{Outcome}
 use Rattle.boot_core.specs.declared.outcome.Outcome.TheVariants as outcome
 use Rattle.command_core.specs.declared.answer.Answer.{Answer}
@@ -35,9 +36,22 @@ device_name device.Hook = codes "hook"
 abbrev pub bad_flash_text : MapFault → List ℕ
 bad_flash_text fault = line_of (codes "bad flash " ++ decimal (map_fault_number fault))
 
+abbrev pub firmware_line : ℕ → ℕ → List ℕ
+firmware_line version len = line_of (codes "firmware " ++ hex_number 4 version ++ codes " " ++ decimal len)
+
+-- a recovery was asked for, or none
+abbrev pub requested_digit : Bool → List ℕ
+requested_digit false = codes "0"
+requested_digit true = codes "1"
+
+abbrev pub reboot_line : ℕ → ℕ → Bool → List ℕ
+reboot_line reason subcode requested =
+    line_of (codes "reboot reason " ++ decimal reason ++ codes " subcode " ++ decimal subcode ++ codes " requested " ++ requested_digit requested)
+
 -- what a boot comes to
 abbrev pub outcome_text : Outcome → List ℕ
-outcome_text (outcome.Selected developer slot) = line_of (mode_name developer) ++ line_of (slot_name slot)
+outcome_text (outcome.Verified developer slot version len) = line_of (mode_name developer) ++ line_of (slot_name slot) ++ firmware_line version len
+outcome_text (outcome.Reboot reason subcode requested) = reboot_line reason subcode requested
 outcome_text (outcome.Screen reason subcode) = line_of (codes "screen reason " ++ decimal reason ++ codes " subcode " ++ decimal subcode)
 outcome_text outcome.ManualRecovery = line_of (codes "not built recovery")
 outcome_text (outcome.BadFlash fault) = bad_flash_text fault
@@ -64,7 +78,8 @@ device_code device.Stick = 7
 device_code device.Hook = 8
 
 abbrev pub outcome_code : Outcome → ℕ
-outcome_code (outcome.Selected developer slot) = 0
+outcome_code (outcome.Verified developer slot version len) = 0
+outcome_code (outcome.Reboot reason subcode requested) = 2
 outcome_code (outcome.Screen reason subcode) = 3
 outcome_code (outcome.BadFlash fault) = 11
 outcome_code outcome.ManualRecovery = 19

@@ -1,5 +1,6 @@
 -- What the command that boots does, and how it ends.
-use Rattle.std.specs.Prelude.{◌≡◌, ◌⊎◌, ℕ, Bool, true, false, IsTrue, Result, Ok, Err}
+use Rattle.std.specs.Prelude.{◌≡◌, ◌⊎◌, ℕ, Bool, true, false, IsTrue, List, Result, Ok, Err}
+use Rattle.fwsel_core.specs.declared.slot.Slot.{Slot}
 use Rattle.board_core.specs.declared.counters.Counters.{Counters}
 use Rattle.board_core.specs.declared.device.Device.{Device}
 use Rattle.board_core.specs.declared.device.Device.TheVariants as device
@@ -15,7 +16,7 @@ use Rattle.boot_core.specs.declared.outcome.Outcome.{Outcome}
 use Rattle.boot_core.specs.declared.switches.Choice.TheVariants as choice
 use Rattle.boot_core.specs.declared.switches.Switches.{Switches}
 use Rattle.boot_core.specs.Steps.{both_locked}
-use Rattle.boot_core.specs.Boots.{IsTold, NeverFall, boot_plan, Boots}
+use Rattle.boot_core.specs.Boots.{IsTold, NeverFall, HandsFirmware, boot_plan, Boots}
 use Rattle.command_core.specs.declared.answer.Answer.{Answer}
 use Rattle.command_core.specs.declared.answer.Answer.TheVariants as answers
 use Rattle.command_core.specs.declared.answer.Status.{Status}
@@ -48,13 +49,16 @@ pub record BootsLocated (sw : Switches) (old new : World) (result : Result Outco
   -- the flash after it
   pub flash : FlashState
   pub locates : Locates old.flash flash (Ok at)
-  pub boots : Boots sw (record old { flash = flash; map_at = at }) new result
+  -- the firmware that the room hands out after it
+  pub handed : List ℕ
+  pub boots : Boots sw (record old { flash = flash; map_at = at }) new handed result
 
 -- what holds of the board at each answer
 abbrev pub BootWorks : Switches → World → World → Answer → Type 0
 BootWorks sw old new (answers.Booted outcome) = BootsLocated sw old new (Ok outcome)
 BootWorks sw old new (answers.Faulted fault) = BootsLocated sw old new (Err fault)
 BootWorks sw old new (answers.Failed device.Flash) = IsUnlocated old new
+BootWorks sw old new answers.OutOfMemory = new ≡ old
 BootWorks sw old new other = ⊥
 
 -- A boot works, and its answer is printed. What it does to the board does not depend on whether that could be printed.
@@ -73,13 +77,14 @@ FailedOnce old new = new.faults ≡ raised old.faults
 abbrev pub NeverFailed : Counters → Counters → Type 0
 NeverFailed old new = new.faults ≡ old.faults
 
--- the status is that of no fault, of a device or of the sink
+-- the status is that of no fault of a device or of the sink, and none of want of memory
 pub record IsNoFault (status : Status) : Type 0 where
   pub flash : status.code ≡ 5 → ⊥
   pub tpm : status.code ≡ 6 → ⊥
   pub drive : status.code ≡ 7 → ⊥
   pub hook : status.code ≡ 8 → ⊥
   pub sink : status.code ≡ 9 → ⊥
+  pub memory : status.code ≡ 15 → ⊥
 
 -- the status is that of the plan of a board, with its map looked for
 pub record EndsPlanned (sw : Switches) (old : World) (status : Status) : Type 0 where
@@ -87,22 +92,42 @@ pub record EndsPlanned (sw : Switches) (old : World) (status : Status) : Type 0 
   pub located : IsLocated old.flash.medium at
   pub code : status.code ≡ outcome_code (boot_plan sw (record old { map_at = at })).outcome
 
-pub record BootEnds (sw : Switches) (old new : World) (put put' : StreamState) (status : Status) : Type 0 where
-  -- where nothing failed, the status is that of the plan
-  pub planned : IsTold old → IsNoFault status → EndsPlanned sw old status
-  -- a fault is answered only where that very device failed, once
+-- Firmware is handed over: that of a slot of the board, with its chain and no older than what is stored.
+pub record EndsVerified (old : World) : Type 0 where
+  pub at : ℕ
+  pub located : IsLocated old.flash.medium at
+  pub slot : Slot
+  pub version : ℕ
+  pub len : ℕ
+  pub handed : List ℕ
+  pub hands : HandsFirmware (record old { map_at = at }) slot version len handed
+
+-- A fault is answered only where that very device failed, once; and at every other status none did.
+pub record EndsFaults (old new : World) (put put' : StreamState) (status : Status) : Type 0 where
   pub flash_fault : status.code ≡ 5 → FailedOnce old.flash.counters new.flash.counters
   pub tpm_fault : status.code ≡ 6 → FailedOnce old.tpm.counters new.tpm.counters
   pub drive_fault : status.code ≡ 7 → FailedOnce old.disk.counters new.disk.counters ⊎ FailedOnce old.stick.counters new.stick.counters
   pub hook_fault : status.code ≡ 8 → new.hook.faults ≡ raised old.hook.faults
   pub sink_fault : status.code ≡ 9 → put'.faults ≡ raised put.faults
-  -- and at every other status none did
   pub no_flash_fault : (status.code ≡ 5 → ⊥) → (status.code ≡ 9 → ⊥) → NeverFailed old.flash.counters new.flash.counters
   pub no_tpm_fault : (status.code ≡ 6 → ⊥) → (status.code ≡ 9 → ⊥) → NeverFailed old.tpm.counters new.tpm.counters
+  pub no_hook_fault : (status.code ≡ 8 → ⊥) → (status.code ≡ 9 → ⊥) → new.hook.faults ≡ old.hook.faults
   pub no_sink_fault : (status.code ≡ 9 → ⊥) → put'.faults ≡ put.faults
-  -- both spaces are locked where the boot goes on, and neither where it ends
+
+-- Both spaces are locked where the boot goes on, and neither where it ends.
+pub record EndsLocks (new : World) (status : Status) : Type 0 where
   pub locked : status.code ≡ 0 → new.tpm.locks ≡ both_locked
-  pub left_unlocked : (status.code ≡ 3) ⊎ ((status.code ≡ 11) ⊎ (status.code ≡ 19)) → new.tpm.locks ≡ unlocked
+  pub left_unlocked : (status.code ≡ 2) ⊎ ((status.code ≡ 3) ⊎ ((status.code ≡ 11) ⊎ (status.code ≡ 19))) → new.tpm.locks ≡ unlocked
+
+pub record BootEnds (sw : Switches) (old new : World) (put put' : StreamState) (status : Status) : Type 0 where
+  -- where nothing failed, the status is that of the plan
+  pub planned : IsTold old → IsNoFault status → EndsPlanned sw old status
+  -- at status 0 the chain of the slot is accepted, and its version is no older
+  pub verified : IsTold old → status.code ≡ 0 → EndsVerified old
+  pub faults : EndsFaults old new put put' status
+  pub locks : EndsLocks new status
+  -- want of memory comes before the first call of a device
+  pub no_memory : status.code ≡ 15 → new ≡ old
   -- status 1 is for other words
   pub not_usage : status.code ≡ 1 → ⊥
   -- at every status, neither stored version falls

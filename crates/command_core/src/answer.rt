@@ -1,6 +1,6 @@
 // What a command came to, with its text and its exit status.
 ghost use Rattle.std.specs.Prelude.{◌≡◌, ◌≤◌, ◌++◌, length};
-ghost use Rattle.command_core.specs.Answers.{line_of, text_of, code_of, device_name, device_code, outcome_text, outcome_code};
+ghost use Rattle.command_core.specs.Answers.{line_of, reboot_line, text_of, code_of, device_name, device_code, outcome_text, outcome_code};
 
 use board_core::{Device, Fault};
 use board_file::OpenFault;
@@ -71,7 +71,8 @@ fn code_of_outcome(outcome: Outcome) -> u8
     ensures { result ≡ outcome_code outcome }
 {
     match outcome {
-        Outcome::Selected { .. } => 0,
+        Outcome::Verified { .. } => 0,
+        Outcome::Reboot { .. } => 2,
         Outcome::Screen { .. } => 3,
         Outcome::BadFlash(_) => 11,
         Outcome::ManualRecovery => 19,
@@ -143,15 +144,25 @@ fn text_of_outcome(outcome: Outcome) -> Text
     ensures { result ≡ outcome_text outcome }
 {
     match outcome {
-        Outcome::Selected { developer, slot } => selected_text(developer, slot),
+        Outcome::Verified {
+            developer,
+            slot,
+            version,
+            len,
+        } => verified_text(developer, slot, version, len),
+        Outcome::Reboot {
+            reason,
+            subcode,
+            requested,
+        } => reboot_text(reason, subcode, requested),
         Outcome::Screen { reason, subcode } => screen_text(reason, subcode),
         Outcome::ManualRecovery => line(b"not built recovery"),
         Outcome::BadFlash(fault) => bad_flash_text(fault),
     }
 }
 
-fn selected_text(developer: bool, slot: Slot) -> Text
-    ensures { result ≡ outcome_text (Outcome.Selected developer slot) }
+fn verified_text(developer: bool, slot: Slot, version: u32, len: u32) -> Text
+    ensures { result ≡ outcome_text (Outcome.Verified developer slot version len) }
 {
     let mut text = Text::new();
     text.push(if developer {
@@ -163,6 +174,25 @@ fn selected_text(developer: bool, slot: Slot) -> Text
         Slot::A => b"slot A\n",
         Slot::B => b"slot B\n",
     });
+    text.push(b"firmware ");
+    text.push_hex(version);
+    text.push(b" ");
+    text.push_decimal(u64::from(len));
+    text.push(b"\n");
+    text
+}
+
+fn reboot_text(reason: u8, subcode: u8, requested: bool) -> Text
+    ensures { result ≡ reboot_line reason subcode requested }
+{
+    let mut text = Text::new();
+    text.push(b"reboot reason ");
+    text.push_decimal(u64::from(reason));
+    text.push(b" subcode ");
+    text.push_decimal(u64::from(subcode));
+    text.push(b" requested ");
+    text.push(if requested { b"1" } else { b"0" });
+    text.push(b"\n");
     text
 }
 

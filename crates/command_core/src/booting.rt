@@ -6,41 +6,50 @@ ghost use Rattle.command_core.specs.Booting.{switches_of, BootWorks, BootRuns, B
 use crate::answer::{Answer, Status};
 use crate::printing::print;
 use board_core::{Device, Disk, Flash, Hook, Platform, Sink, Tpm};
-use boot_core::{Choice, Switches, boot};
+use boot_core::{Choice, Room, Switches, boot};
 use rom_core::locate;
+use std::alloc::Global;
 
-/// Boots a board with the recovery switch on or off, prints what it came to, and answers the exit status.
+/// Boots a board with the recovery switch on or off, prints what it came to, and answers the exit status. Its memory is taken
+/// before the first call of a device.
 pub fn run_boot<F: Flash, T: Tpm, D: Disk, E: Disk, H: Hook, O: Sink>(
+    alloc: Global,
     p: &mut Platform<F, T, D, E, H>,
     recovery: bool,
     out: &mut O,
 ) -> Status
     requires { IsSettled (world F.state T.state H.state p.old) }
-    ensures runs { BootRuns (switches_of recovery) (world F.state T.state H.state p.old) (world F.state T.state H.state p.new) (O.state out.old) (O.state out.new) result }
-    ensures ends { BootEnds (switches_of recovery) (world F.state T.state H.state p.old) (world F.state T.state H.state p.new) (O.state out.old) (O.state out.new) result }
+    ensures runs { BootRuns (switches_of recovery) (world F.state T.state H.state p.old) (world F.state T.state H.state p.new)
+        (O.state out.old) (O.state out.new) result }
+    ensures ends { BootEnds (switches_of recovery) (world F.state T.state H.state p.old) (world F.state T.state H.state p.new)
+        (O.state out.old) (O.state out.new) result }
 {
     let sw = Switches {
         recovery,
         enable_dev: false,
         choice: Choice::Default,
     };
-    let answer = work_boot(p, sw);
+    let answer = work_boot(alloc, p, sw);
     print(out, &answer)
 }
 
-// Looks for the map of the flash, and boots.
+// Takes the memory of a boot, looks for the map of the flash, and boots.
 fn work_boot<F: Flash, T: Tpm, D: Disk, E: Disk, H: Hook>(
+    alloc: Global,
     p: &mut Platform<F, T, D, E, H>,
     sw: Switches,
 ) -> Answer
     requires { IsSettled (world F.state T.state H.state p.old) }
     ensures { BootWorks sw (world F.state T.state H.state p.old) (world F.state T.state H.state p.new) result }
 {
+    let Ok(mut room) = Room::reserve(alloc) else {
+        return Answer::OutOfMemory;
+    };
     let Ok(at) = locate(&mut p.flash) else {
         return Answer::Failed(Device::Flash);
     };
     p.map_at = at;
-    match boot(p, sw) {
+    match boot(p, &mut room, sw) {
         Ok(outcome) => Answer::Booted(outcome),
         Err(fault) => Answer::Faulted(fault),
     }

@@ -1,6 +1,7 @@
 // The command that makes the images of a machine.
 ghost use Rattle.std.specs.Prelude.{◌≡◌};
 ghost use Rattle.board_core.specs.World.{world};
+ghost use Rattle.boot_core.specs.Carries.{IsSettled};
 ghost use Rattle.command_core.specs.Making.{refusal_of, EndsMake, Makes};
 
 use crate::answer::{Answer, Status};
@@ -15,7 +16,9 @@ pub fn run_make<F: Flash, T: Tpm, D: Disk, E: Disk, H: Hook, O: Sink>(
     number: u32,
     out: &mut O,
 ) -> Status
-    ensures { Makes number (world F.state T.state H.state p.old) (world F.state T.state H.state p.new) (O.state out.old) (O.state out.new) result }
+    requires { IsSettled (world F.state T.state H.state p.old) }
+    ensures { Makes number (world F.state T.state H.state p.old) (world F.state T.state H.state p.new) (O.state out.old)
+        (O.state out.new) result }
 {
     let answer = make(p, number);
     end_make(out, answer)

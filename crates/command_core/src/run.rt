@@ -11,36 +11,41 @@ use crate::making::run_make;
 use crate::printing::print;
 use crate::showing::run_show;
 use board_core::{Disk, Flash, Hook, Platform, Sink, Tpm};
+use std::alloc::Global;
 
 /// Works the command that these words name, which follow the program's name, on a board on whose disks nothing is pending,
 /// and prints its answer. Other words leave the board as it is.
 pub fn run_words<F: Flash, T: Tpm, D: Disk, E: Disk, H: Hook, O: Sink>(
+    alloc: Global,
     words: &[String],
     p: &mut Platform<F, T, D, E, H>,
     out: &mut O,
 ) -> Status
     requires { IsSettled (world F.state T.state H.state p.old) }
-    ensures { Runs (map string_bytes words.now) (world F.state T.state H.state p.old) (world F.state T.state H.state p.new) (O.state out.old) (O.state out.new) result }
+    ensures { Runs (map string_bytes words.now) (world F.state T.state H.state p.old) (world F.state T.state H.state p.new)
+        (O.state out.old) (O.state out.new) result }
 {
     let found = command_of(words);
     match found {
         None => print(out, &Answer::Usage),
-        Some(command) => run_command(command, p, out),
+        Some(command) => run_command(alloc, command, p, out),
     }
 }
 
 /// Works a command on a board on whose disks nothing is pending, and prints its answer.
 pub fn run_command<F: Flash, T: Tpm, D: Disk, E: Disk, H: Hook, O: Sink>(
+    alloc: Global,
     command: Command,
     p: &mut Platform<F, T, D, E, H>,
     out: &mut O,
 ) -> Status
     requires { IsSettled (world F.state T.state H.state p.old) }
-    ensures runs { RunsBy (Some command) (world F.state T.state H.state p.old) (world F.state T.state H.state p.new) (O.state out.old) (O.state out.new) result }
+    ensures runs { RunsBy (Some command) (world F.state T.state H.state p.old) (world F.state T.state H.state p.new) (O.state out.old)
+        (O.state out.new) result }
     ensures not_usage { result.code ≡ 1 → ⊥ }
 {
     match command {
-        Command::Boot { recovery } => run_boot(p, recovery, out),
+        Command::Boot { recovery } => run_boot(alloc, p, recovery, out),
         Command::ShowFlash => run_show(p, out),
         Command::Make(number) => run_make(p, number, out),
     }

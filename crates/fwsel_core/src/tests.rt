@@ -1,4 +1,4 @@
-// Rows from outside: selections, and one row for each line of the table of modes.
+// Rows from outside: selections, failures, and one row for each line of the table of modes.
 use super::*;
 use record_core::{Nv, NvField};
 use std::test::Fail;
@@ -29,6 +29,56 @@ fn selections(rt: HostRuntime) -> Result<(), Fail> {
         let mut nv = Nv::from_bytes(before).ok_or("a good record")?;
         assert_eq!(rt; select(&mut nv), want, "from {before:?}");
         assert_eq!(rt; nv.bytes(), after, "from {before:?}");
+    }
+    Ok(())
+}
+
+#[test]
+fn failures(rt: HostRuntime) -> Result<(), Fail> {
+    let tried = |slot, last_slot, last_result| {
+        Some(Selection {
+            slot,
+            last_slot,
+            last_result,
+        })
+    };
+    // The record, the selection, whether a recovery is asked for with reason 22 and subcode 4, and the record after it.
+    let rows = [
+        (
+            *b"\x40\x03\0\0\0\0\0\x08\0\0\0\0\0\0\0\x33",
+            tried(Slot::B, Slot::A, 3),
+            true,
+            *b"\x40\0\x16\0\0\0\x04\x03\0\0\0\0\0\0\0\x5b",
+        ),
+        (
+            *b"\x40\x03\x07\0\0\0\x09\x08\0\0\0\0\0\0\0\x6e",
+            tried(Slot::B, Slot::A, 3),
+            false,
+            *b"\x40\0\x07\0\0\0\x09\x03\0\0\0\0\0\0\0\xeb",
+        ),
+        (
+            *b"\x40\x03\0\0\0\0\0\x08\0\0\0\0\0\0\0\x33",
+            tried(Slot::B, Slot::A, 2),
+            false,
+            *b"\x40\0\0\0\0\0\0\x03\0\0\0\0\0\0\0\xb6",
+        ),
+        (
+            *b"\x40\x03\0\0\0\0\0\x08\0\0\0\0\0\0\0\x33",
+            tried(Slot::A, Slot::A, 3),
+            false,
+            *b"\x40\0\0\0\0\0\0\x0b\0\0\0\0\0\0\0\x2e",
+        ),
+        (
+            *b"\x40\x03\0\0\0\0\0\x08\0\0\0\0\0\0\0\x33",
+            None,
+            true,
+            *b"\x40\x03\x16\0\0\0\x04\x08\0\0\0\0\0\0\0\xde",
+        ),
+    ];
+    for (before, selection, want, after) in rows {
+        let mut nv = Nv::from_bytes(&before).ok_or("a good record")?;
+        assert_eq!(rt; fail(&mut nv, selection, 22, 4), want, "of {before:?}");
+        assert_eq!(rt; nv.bytes(), after, "of {before:?}");
     }
     Ok(())
 }

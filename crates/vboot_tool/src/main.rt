@@ -37,7 +37,7 @@ fn run_here<R: Files + AllocGlobal, O: Sink>(rt: &R, words: &[String], out: &mut
         return print(out, &Answer::Usage);
     };
     match open_board(rt) {
-        Ok(mut board) => run_command(command, &mut board, out),
+        Ok(mut board) => run_command(rt.alloc(), command, &mut board, out),
         Err(fault) => print(out, &Answer::Unopened(fault)),
     }
 }

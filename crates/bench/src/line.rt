@@ -1,4 +1,6 @@
 // A line of the script of cases.
+use board_core::HookRow;
+use board_file::read_hook;
 use hex::decode;
 use std::alloc::Global;
 
@@ -42,6 +44,8 @@ pub enum Line {
     Rewrite(u32, Vec<u8>),
     /// A space of the machine has these bytes.
     Space(SpaceName, Vec<u8>),
+    /// The machine accepts these signatures.
+    Accept(Vec<HookRow>),
     /// These words are run with each call of a device failing in turn.
     Each(Failing, usize),
     /// These words are run.
@@ -58,6 +62,20 @@ fn bytes_in(alloc: Global, word: &str) -> Option<Vec<u8>> {
         return Some(Vec::new(alloc));
     }
     decode(alloc, word).ok()
+}
+
+// The accepted signature of an algorithm, a key, a digest and a signature, by the format of their file.
+fn rows_in(
+    alloc: Global,
+    algorithm: &str,
+    key: &str,
+    digest: &str,
+    signature: &str,
+) -> Option<Vec<HookRow>> {
+    let text = format!(in alloc;
+        "[[row]]\nalgorithm = {algorithm}\nkey = \"{key}\"\ndigest = \"{digest}\"\nsignature = \"{signature}\"\n"
+    ).ok()?;
+    read_hook(alloc, text.as_str()).ok()
 }
 
 fn space_named(name: &str) -> Option<SpaceName> {
@@ -86,11 +104,20 @@ pub fn line_of(alloc: Global, words: &[String]) -> Option<Line> {
             let space = space_named(space.as_str())?;
             Some(Line::Space(space, bytes_in(alloc, digits.as_str())?))
         }
+        [verb, algorithm, key, digest, signature] if verb.as_str() == "row" => Some(Line::Accept(
+            rows_in(
+                alloc,
+                algorithm.as_str(),
+                key.as_str(),
+                digest.as_str(),
+                signature.as_str(),
+            )?,
+        )),
         [verb, device, ..] if verb.as_str() == "each" => {
             Some(Line::Each(Failing::named(device.as_str())?, 2))
         }
         [verb, ..] => match verb.as_str() {
-            "machine" | "erased" | "rewrite" | "space" | "each" => None,
+            "machine" | "erased" | "rewrite" | "space" | "row" | "each" => None,
             _ => Some(Line::Words),
         },
         [] => None,

@@ -1,6 +1,7 @@
 // The machine of a case: the images that a command is run on.
 ghost use Rattle.std.specs.Prelude.{◌≡◌, ◌≤◌, ◌<◌, ◌^◌, length, vec_len, IfOk};
 
+use board_core::HookRow;
 use std::alloc::{AllocError, Global};
 
 /// A space of the TPM, of at most 64 bytes.
@@ -37,22 +38,49 @@ impl SpaceImage {
     }
 }
 
-/// The images of a flash and of both spaces of a TPM.
+/// The most accepted signatures of a machine.
+const MOST_ROWS: usize = 4096;
+
+/// The images of a flash and of both spaces of a TPM, and the accepted signatures.
 #[derive(Drop)]
 pub struct Machine {
     pub flash: Vec<u8>,
     pub firmware: SpaceImage,
     pub kernel: SpaceImage,
+    pub rows: Vec<HookRow>,
     ghost small: { vec_len flash < 2 ^ 32 },
+    ghost few: { vec_len rows ≤ 4096 },
 }
 
 impl Machine {
-    /// A machine whose flash has so many erased bytes, and whose spaces are empty.
+    /// A machine whose flash has so many erased bytes, whose spaces are empty, and which accepts no signature.
     pub fn erased(alloc: Global, size: u32) -> Result<Machine, AllocError> {
         Ok(Machine {
             flash: vec![in alloc; 0xff; size as usize]?,
             firmware: SpaceImage::empty(),
             kernel: SpaceImage::empty(),
+            rows: Vec::new(alloc),
+        })
+    }
+
+    /// Appends accepted signatures, and answers whether there is room for them.
+    pub fn accept(&mut self, rows: &[HookRow]) -> Result<bool, AllocError> {
+        for row in rows {
+            if self.rows.len() >= MOST_ROWS {
+                return Ok(false);
+            }
+            self.rows.push(*row)?;
+        }
+        Ok(true)
+    }
+
+    /// The same machine once more.
+    pub fn copy(&self, alloc: Global) -> Result<Machine, AllocError> {
+        Ok(Machine {
+            flash: self.flash.to_vec(alloc)?,
+            firmware: self.firmware,
+            kernel: self.kernel,
+            rows: self.rows.to_vec(alloc)?,
         })
     }
 

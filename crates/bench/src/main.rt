@@ -1,9 +1,10 @@
 //! The bench: it reads a script of cases, runs each over devices in memory, and prints a transcript, which the gate compares.
 //!
 //! Each line of the script is printed, and below it what it came to. `machine N` makes the machine of a number, and `erased N`
-//! one whose flash has so many erased bytes; `rewrite flash PLACE HEX` and `space firmware HEX` change its images; `each DEVICE
-//! WORDS` runs words with each call of a device failing in turn, with each of the remains, and leaves the machine as it was; any
-//! other words are run on the machine. A line that begins with `#` is a comment.
+//! one whose flash has so many erased bytes; `rewrite flash PLACE HEX` and `space firmware HEX` change its images, `row ALGORITHM
+//! KEY DIGEST SIGNATURE` enrolls a signature by the digests of its file; `each DEVICE WORDS` runs words with each call of a device
+//! failing in turn, with each of the remains, and then once more without a failure, and leaves the machine as it was; any other
+//! words are run on the machine. A line that begins with `#` is a comment.
 #![tactic(auto)]
 
 mod line;
@@ -17,7 +18,7 @@ use machine::{Machine, SpaceImage};
 use running::run_on;
 use std::alloc::{AllocError, Global};
 use std::io;
-use transcript::print_run;
+use transcript::{print_next, print_run};
 
 /// The most calls of a device that fail in turn.
 const MOST_CALLS: u32 = 64;
@@ -54,6 +55,8 @@ fn run_each<R: Print + AllocGlobal>(
         }
         println!(rt; "  - call {call} {name}")?;
         print_run(rt, machine, &ran)?;
+        let next = run_on(rt.alloc(), &ran.after, words, None)?;
+        print_next(rt, &next)?;
     }
     Ok(())
 }
@@ -68,9 +71,26 @@ fn make_machine(alloc: Global, number: u32) -> Result<Machine, AllocError> {
     Ok(ran.after)
 }
 
+// The machine of a number, which is made once where its number is that of the one before.
+fn machine_of_number(
+    alloc: Global,
+    made: &mut Option<(u32, Machine)>,
+    number: u32,
+) -> Result<Machine, AllocError> {
+    if let Some((of, machine)) = made {
+        if *of == number {
+            return machine.copy(alloc);
+        }
+    }
+    let machine = make_machine(alloc, number)?;
+    *made = Some((number, machine.copy(alloc)?));
+    Ok(machine)
+}
+
 // Works a line, and answers the machine after it.
 fn work<R: Print + AllocGlobal>(
     rt: &R,
+    made: &mut Option<(u32, Machine)>,
     mut machine: Machine,
     words: &[String],
     number: u64,
@@ -81,7 +101,7 @@ fn work<R: Print + AllocGlobal>(
             println!(rt; "  line {number} has no form of a case")?;
             Ok(machine)
         }
-        Some(Line::Machine(number)) => Ok(make_machine(alloc, number)?),
+        Some(Line::Machine(number)) => Ok(machine_of_number(alloc, made, number)?),
         Some(Line::Erased(size)) => Ok(Machine::erased(alloc, size)?),
         Some(Line::Rewrite(at, bytes)) => {
             if !machine.rewrite(at as usize, &bytes) {
@@ -95,6 +115,12 @@ fn work<R: Print + AllocGlobal>(
         }
         Some(Line::Space(SpaceName::Kernel, bytes)) => {
             machine.kernel = SpaceImage::of(&bytes);
+            Ok(machine)
+        }
+        Some(Line::Accept(rows)) => {
+            if !machine.accept(&rows)? {
+                println!(rt; "  line {number} has no room for its row")?;
+            }
             Ok(machine)
         }
         Some(Line::Each(device, from)) => {
@@ -116,6 +142,7 @@ fn work<R: Print + AllocGlobal>(
 
 fn main(rt: HostRuntime) -> io::Result<()> {
     let mut machine = Machine::erased(rt.alloc(), 0)?;
+    let mut made = None;
     let mut number = 0u64;
     for line in rt.lines(rt.alloc()) {
         let line = line?;
@@ -126,7 +153,7 @@ fn main(rt: HostRuntime) -> io::Result<()> {
         }
         println!(rt; "{text}")?;
         let words = words_of(rt.alloc(), text)?;
-        machine = work(&rt, machine, &words, number)?;
+        machine = work(&rt, &mut made, machine, &words, number)?;
     }
     Ok(())
 }

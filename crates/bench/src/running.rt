@@ -4,7 +4,7 @@ ghost use Rattle.board_core.specs.FuseDisk.{fuse_disk_state};
 
 use crate::line::Failing;
 use crate::machine::{Machine, SpaceImage};
-use board_core::{Flash, Fuse, FuseDisk, FuseTpm, Platform, Space, Tpm};
+use board_core::{Flash, Fuse, FuseDisk, FuseTpm, HookRow, Platform, Space, Tpm};
 use board_mem::{FailAt, MemDisk, MemFlash, MemSink, MemTpm, TableHook};
 use command_core::run_words;
 use std::alloc::{AllocError, Global};
@@ -35,12 +35,28 @@ fn fails_of(
     Ok(fails)
 }
 
-// A disk of no sectors.
-fn absent_disk(alloc: Global) -> Result<FuseDisk<MemDisk>, AllocError>
+// A disk of zeros of so many pieces of 64 sectors.
+fn blank_disk(
+    alloc: Global,
+    pieces: usize,
+    fails: &[FailAt],
+) -> Result<FuseDisk<MemDisk>, AllocError>
+    requires { pieces ≤ 256 }
     ensures { IfOk result (λ disk. (fuse_disk_state disk).medium.pending ≡ 0) }
 {
-    let disk = MemDisk::new(alloc, &[], &[])?;
+    let content = vec![in alloc; 0; pieces * 32768]?;
+    let disk = MemDisk::new(alloc, &content, fails)?;
     Ok(FuseDisk::new(alloc, disk))
+}
+
+// How many pieces the disk of a run has: that of a made machine, or none, since no other command touches a drive yet.
+fn disk_pieces(words: &[String]) -> usize
+    ensures { result ≤ 256 }
+{
+    match words.first() {
+        Some(word) if word.as_str() == "make" => 256,
+        _ => 0,
+    }
 }
 
 // The bytes of a flash.
@@ -74,18 +90,19 @@ pub fn run_on(
     let firmware = machine.firmware;
     let kernel = machine.kernel;
     let tpm = MemTpm::new(alloc, firmware.as_slice(), kernel.as_slice(), &tpm_fails)?;
-    let hook = TableHook::new(alloc, &[], &hook_fails)?;
+    let hook = TableHook::new(alloc, &machine.rows, &hook_fails)?;
     let mut out = MemSink::new(alloc, MOST_TEXT, &sink_fails)?;
     let mut board = Platform {
         flash: Fuse::new(alloc, flash),
         tpm: FuseTpm::new(tpm),
-        disk: absent_disk(alloc)?,
-        stick: absent_disk(alloc)?,
+        disk: blank_disk(alloc, disk_pieces(words), &[])?,
+        stick: blank_disk(alloc, 0, &[])?,
         hook,
         map_at: 0,
     };
-    let status = run_words(words, &mut board, &mut out).code;
-    let after = machine_of(alloc, &mut board.flash, &mut board.tpm)?;
+    let status = run_words(alloc, words, &mut board, &mut out).code;
+    let rows = board.hook.rows().to_vec(alloc)?;
+    let after = machine_of(alloc, &mut board.flash, &mut board.tpm, rows)?;
     Ok(Ran {
         text: out.bytes().to_vec(alloc)?,
         status,
@@ -93,12 +110,15 @@ pub fn run_on(
     })
 }
 
-// What a flash and a TPM hold.
+// What a flash and a TPM hold, with these accepted signatures.
 fn machine_of<F: Flash, T: Tpm>(
     alloc: Global,
     flash: &mut F,
     tpm: &mut T,
-) -> Result<Machine, AllocError> {
+    rows: Vec<HookRow>,
+) -> Result<Machine, AllocError>
+    requires { length rows.items ≤ 4096 }
+{
     let bytes = bytes_of(alloc, flash)?;
     if bytes.len() > u32::MAX as usize {
         return Machine::erased(alloc, 0);
@@ -107,5 +127,6 @@ fn machine_of<F: Flash, T: Tpm>(
         flash: bytes,
         firmware: space_of(tpm, Space::Firmware),
         kernel: space_of(tpm, Space::Kernel),
+        rows,
     })
 }

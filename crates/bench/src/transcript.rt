@@ -92,5 +92,23 @@ pub fn print_run<R: Print + AllocGlobal>(rt: &R, before: &Machine, ran: &Ran) ->
     let (firmware, kernel) = (before.firmware, before.kernel);
     let (new_firmware, new_kernel) = (ran.after.firmware, ran.after.kernel);
     print_changes(rt, "firmware", firmware.as_slice(), new_firmware.as_slice())?;
-    print_changes(rt, "kernel", kernel.as_slice(), new_kernel.as_slice())
+    print_changes(rt, "kernel", kernel.as_slice(), new_kernel.as_slice())?;
+    let (rows, new_rows) = (before.rows.len(), ran.after.rows.len());
+    if rows == new_rows {
+        return Ok(());
+    }
+    println!(rt; "  rows {rows} {new_rows}")
+}
+
+/// Prints in one line what the next run came to, which had no failing call.
+pub fn print_next<R: Print + AllocGlobal>(rt: &R, ran: &Ran) -> io::Result<()> {
+    let status = ran.status;
+    print!(rt; "  then")?;
+    let text = ran.text.to_vec(rt.alloc())?;
+    if let Ok(text) = String::from_utf8(text) {
+        for line in text.as_str().lines() {
+            print!(rt; " {line},")?;
+        }
+    }
+    println!(rt; " status {status}")
 }

@@ -111,7 +111,8 @@ pub record WritesDisk {E : Type 0} (lba : ℕ) (meant : List ℕ) (old new : Dis
   pub bytes : IsTrue old.medium.told → OnOk result (new.medium.bytes ≡ spliced old.medium.bytes (lba * 512) meant)
   pub writes : IsTrue old.medium.told → OnOk result (new.medium.writes ≡ old.medium.writes ++ write_records lba meant old.medium)
   pub torn : IsTrue old.medium.told → OnOk result (new.medium.torn ≡ old.medium.torn)
-  pub err : IsTrue old.medium.told → OnErr result (LeftDiskTorn old.medium.writes (write_records lba meant old.medium) old.medium new.medium)
+  pub err : IsTrue old.medium.told → OnErr result
+      (LeftDiskTorn old.medium.writes (write_records lba meant old.medium) old.medium new.medium)
 
 -- A flush that answered Ok: all writes so far last.
 pub record Flushed (old new : DiskMedium) : Type 0 where

@@ -57,7 +57,8 @@ pub record EndsAtRead (at count : ℕ) (old new : FlashState) (log log' : List T
 -- ---- a read
 
 -- A read, on a fuse.
-pub record FuseReads {F E : Type 0} (state : F → FlashState) (at : ℕ) (buf : List ℕ) (old new : Fuse F) (result : Result Unit E) : Type 0 where
+pub record FuseReads {F E : Type 0} (state : F → FlashState) (at : ℕ) (buf : List ℕ) (old new : Fuse F)
+    (result : Result Unit E) : Type 0 where
   -- the stop stays where it stood
   pub stop : new.counters.stop ≡ old.counters.stop
   -- a dead fuse refuses the read
@@ -79,7 +80,8 @@ pub record KeepsFront (keep at : ℕ) (meant : List ℕ) (old new : FlashMedium)
   -- the flash below notes nothing
   pub torn : new.torn ≡ old.torn
   -- the fuse notes the whole range
-  pub noted : log' ≡ log ++ torn_records at (range old.bytes at (length meant)) meant (take kept meant ++ drop kept (range old.bytes at (length meant)))
+  pub noted : log' ≡ log
+      ++ torn_records at (range old.bytes at (length meant)) meant (take kept meant ++ drop kept (range old.bytes at (length meant)))
 
 -- The flash below read the old bytes, and failed in the program of the part. The fuse did no more, and notes nothing.
 pub record EndsAtProgram (keep at : ℕ) (meant : List ℕ) (old new : FlashState) (log log' : List Torn) : Type 0 where
@@ -100,17 +102,21 @@ pub record DoesProgram (keep at : ℕ) (meant : List ℕ) (old new : FlashState)
 -- the chosen program: the flash below failed in its read or in the part, or it did the part
 abbrev pub CutsProgram : ℕ → ℕ → List ℕ → FlashState → FlashState → List Torn → List Torn → Type 0
 CutsProgram keep at meant old new log log' =
-    EndsAtRead at (length meant) old new log log' ⊎ (EndsAtProgram keep at meant old new log log' ⊎ DoesProgram keep at meant old new log log')
+    EndsAtRead at (length meant) old new log log'
+    ⊎ (EndsAtProgram keep at meant old new log log' ⊎ DoesProgram keep at meant old new log log')
 
 -- A program, on a fuse.
-pub record FusePrograms {F E : Type 0} (state : F → FlashState) (at : ℕ) (meant : List ℕ) (old new : Fuse F) (result : Result Unit E) : Type 0 where
+pub record FusePrograms {F E : Type 0} (state : F → FlashState) (at : ℕ) (meant : List ℕ) (old new : Fuse F)
+    (result : Result Unit E) : Type 0 where
   -- the stop moves by one call
   pub stop : new.counters.stop ≡ stop_after old.counters.stop
   -- a dead fuse refuses the program
   pub refused : turn_of old.counters.stop ≡ Refuse → IsErr result × IsUntouched old new
-  pub passed : turn_of old.counters.stop ≡ Pass → Programs at meant (state old.inner) (state new.inner) result × (new.torn.items ≡ old.torn.items)
+  pub passed : turn_of old.counters.stop ≡ Pass → Programs at meant (state old.inner) (state new.inner) result
+      × (new.torn.items ≡ old.torn.items)
   -- the chosen program is cut short, and fails
-  pub chosen : (keep : ℕ) → turn_of old.counters.stop ≡ Stop keep → IsErr result × CutsProgram keep at meant (state old.inner) (state new.inner) old.torn.items new.torn.items
+  pub chosen : (keep : ℕ) → turn_of old.counters.stop ≡ Stop keep → IsErr result
+      × CutsProgram keep at meant (state old.inner) (state new.inner) old.torn.items new.torn.items
 
 -- ---- an erase
 
@@ -160,4 +166,5 @@ pub record FuseErases {F E : Type 0} (state : F → FlashState) (page : ℕ) (ol
   pub refused : turn_of old.counters.stop ≡ Refuse → IsErr result × IsUntouched old new
   pub passed : turn_of old.counters.stop ≡ Pass → Erases page (state old.inner) (state new.inner) result × (new.torn.items ≡ old.torn.items)
   -- the chosen erase is cut short, and fails
-  pub chosen : (keep : ℕ) → turn_of old.counters.stop ≡ Stop keep → IsErr result × CutsErase keep page (state old.inner) (state new.inner) old.torn.items new.torn.items
+  pub chosen : (keep : ℕ) → turn_of old.counters.stop ≡ Stop keep → IsErr result
+      × CutsErase keep page (state old.inner) (state new.inner) old.torn.items new.torn.items

@@ -30,33 +30,38 @@ pub record IsUntouchedDisk {D : Type 0} {disk : Ghosts D} (old new : FuseDisk D 
   pub sectors_read : new.sectors_read ≡ old.sectors_read
 
 -- A read, on a fuse.
-pub record FuseReadsDisk {D : Type 0} {disk : Ghosts D} (lba : ℕ) (buf : List ℕ) (old new : FuseDisk D disk) (result : Result Unit Failed) : Type 0 where
+pub record FuseReadsDisk {D : Type 0} {disk : Ghosts D} (lba : ℕ) (buf : List ℕ) (old new : FuseDisk D disk)
+    (result : Result Unit Failed) : Type 0 where
   -- the stop stays where it stood
   pub stop : new.counters.stop ≡ old.counters.stop
   -- a dead fuse refuses the read
   pub refused : old.counters.stop ≡ Dead → IsErr result × IsUntouchedDisk old new
   -- any other fuse passes it on
-  pub passed : (old.counters.stop ≡ Dead → ⊥) → ReadsDisk lba buf (state_below old) (state_below new) result × (new.torn.items ≡ old.torn.items)
+  pub passed : (old.counters.stop ≡ Dead → ⊥) → ReadsDisk lba buf (state_below old) (state_below new) result
+      × (new.torn.items ≡ old.torn.items)
   -- the fuse counts the sectors of reads that answered Ok
   pub counted : OnOk result (new.sectors_read ≡ advanced old.sectors_read (length buf / 512))
   pub uncounted : OnErr result (new.sectors_read ≡ old.sectors_read)
 
 -- A write that passed on. An armed fuse reads the old bytes first, and makes no write where that read fails.
-abbrev pub PassesWrite : {D : Type 0} {disk : Ghosts D} → FuseState → ℕ → List ℕ → FuseDisk D disk → FuseDisk D disk → Result Unit Failed → Type 0
+abbrev pub PassesWrite : {D : Type 0} {disk : Ghosts D} → FuseState → ℕ → List ℕ → FuseDisk D disk → FuseDisk D disk → Result Unit Failed
+    → Type 0
 PassesWrite Unarmed lba meant old new result = WritesDisk lba meant (state_below old) (state_below new) result
 PassesWrite (Armed left keep) lba meant old new result =
     ReadsThenWrites lba meant (state_below old) (state_below new) result
 PassesWrite Dead lba meant old new result = ⊥
 
 -- A write, on a fuse.
-pub record FuseWritesDisk {D : Type 0} {disk : Ghosts D} (lba : ℕ) (meant : List ℕ) (old new : FuseDisk D disk) (result : Result Unit Failed) : Type 0 where
+pub record FuseWritesDisk {D : Type 0} {disk : Ghosts D} (lba : ℕ) (meant : List ℕ) (old new : FuseDisk D disk)
+    (result : Result Unit Failed) : Type 0 where
   -- the stop moves by one call
   pub stop : new.counters.stop ≡ stop_after old.counters.stop
   -- a dead fuse refuses the write
   pub refused : turn_of old.counters.stop ≡ Refuse → IsErr result × IsUntouchedDisk old new
   pub passed : turn_of old.counters.stop ≡ Pass → PassesWrite old.counters.stop lba meant old new result × (new.torn.items ≡ old.torn.items)
   -- the chosen write is cut short, and fails
-  pub chosen : (keep : ℕ) → turn_of old.counters.stop ≡ Stop keep → IsErr result × CutsDiskWrite keep lba meant (state_below old) (state_below new) old.torn.items new.torn.items
+  pub chosen : (keep : ℕ) → turn_of old.counters.stop ≡ Stop keep → IsErr result
+      × CutsDiskWrite keep lba meant (state_below old) (state_below new) old.torn.items new.torn.items
   pub sectors_read : new.sectors_read ≡ old.sectors_read
 
 -- A flush, on a fuse.
@@ -67,5 +72,6 @@ pub record FuseFlushes {D : Type 0} {disk : Ghosts D} (old new : FuseDisk D disk
   pub refused : turn_of old.counters.stop ≡ Refuse → IsErr result × IsUntouchedDisk old new
   pub passed : turn_of old.counters.stop ≡ Pass → Flushes (state_below old) (state_below new) result × (new.torn.items ≡ old.torn.items)
   -- the chosen flush happens, and fails
-  pub chosen : (keep : ℕ) → turn_of old.counters.stop ≡ Stop keep → IsErr result × CutsFlush (state_below old) (state_below new) old.torn.items new.torn.items
+  pub chosen : (keep : ℕ) → turn_of old.counters.stop ≡ Stop keep → IsErr result
+      × CutsFlush (state_below old) (state_below new) old.torn.items new.torn.items
   pub sectors_read : new.sectors_read ≡ old.sectors_read

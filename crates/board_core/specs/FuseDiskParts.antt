@@ -23,12 +23,14 @@ pub record Mirrors (medium : DiskMedium) (writes : List Torn) : Type 0 where
 
 -- what a flush left torn, as the disk below and the log of the fuse tell it
 abbrev pub TearsFlush : DiskState → DiskState → List Torn → List Torn → Type 0
-TearsFlush old new log log' = IsTrue old.medium.told → LeftDiskTorn old.medium.writes [] (with_disk_log old.medium log) (with_disk_log new.medium log')
+TearsFlush old new log log' =
+    IsTrue old.medium.told → LeftDiskTorn old.medium.writes [] (with_disk_log old.medium log) (with_disk_log new.medium log')
 
 -- what a write left torn, as the disk below and the log of the fuse tell it
 abbrev pub TearsWrite : ℕ → List ℕ → DiskState → DiskState → List Torn → List Torn → Type 0
 TearsWrite lba meant old new log log' =
-    IsTrue old.medium.told → LeftDiskTorn old.medium.writes (write_records lba meant old.medium) (with_disk_log old.medium log) (with_disk_log new.medium log')
+    IsTrue old.medium.told → LeftDiskTorn old.medium.writes (write_records lba meant old.medium) (with_disk_log old.medium log)
+    (with_disk_log new.medium log')
 
 -- ---- one call of the disk below, which failed or did not: its counts and its stop move as this one call moves them
 
@@ -117,7 +119,9 @@ pub record KeepsSectors (keep lba : ℕ) (meant : List ℕ) (old new : DiskMediu
   -- the disk below notes nothing
   pub torn : new.torn ≡ old.torn
   -- the fuse notes each pending sector, and the whole range
-  pub noted : log' ≡ (log ++ old.writes) ++ torn_records (lba * 512) (range old.bytes (lba * 512) (length meant)) meant (take kept meant ++ drop kept (range old.bytes (lba * 512) (length meant)))
+  pub noted : log' ≡ (log ++ old.writes)
+      ++ torn_records (lba * 512) (range old.bytes (lba * 512) (length meant)) meant
+      (take kept meant ++ drop kept (range old.bytes (lba * 512) (length meant)))
 
 -- The disk below failed in the read of the old bytes. The fuse did no more, and notes nothing.
 pub record EndsAtDiskRead (lba count : ℕ) (old new : DiskState) (log log' : List Torn) : Type 0 where
@@ -142,7 +146,8 @@ pub record DoesDiskWrite (keep lba : ℕ) (meant : List ℕ) (old new : DiskStat
 -- the chosen write: the disk below failed in its read or in the part, or it did the part
 abbrev pub CutsDiskWrite : ℕ → ℕ → List ℕ → DiskState → DiskState → List Torn → List Torn → Type 0
 CutsDiskWrite keep lba meant old new log log' =
-    EndsAtDiskRead lba (length meant) old new log log' ⊎ (EndsAtFront keep lba meant old new log log' ⊎ DoesDiskWrite keep lba meant old new log log')
+    EndsAtDiskRead lba (length meant) old new log log'
+    ⊎ (EndsAtFront keep lba meant old new log log' ⊎ DoesDiskWrite keep lba meant old new log log')
 
 -- A chosen flush that happened, and its notes.
 pub record KeepsAll (old new : DiskMedium) (log log' : List Torn) : Type 0 where

@@ -26,7 +26,8 @@ abbrev pub FuseStartsUp : {T E : Type 0} → (T → TpmState) → FuseTpm T → 
 FuseStartsUp state old new result = PassesUnlessDead (StartsUp (state old.inner) (state new.inner) result) old new result
 
 abbrev pub FuseReadsSpace : {T E : Type 0} → (T → TpmState) → Space → List ℕ → FuseTpm T → FuseTpm T → Result ℕ E → Type 0
-FuseReadsSpace state space buf old new result = PassesUnlessDead (ReadsSpace space buf (state old.inner) (state new.inner) result) old new result
+FuseReadsSpace state space buf old new result =
+    PassesUnlessDead (ReadsSpace space buf (state old.inner) (state new.inner) result) old new result
 
 abbrev pub FuseLocksSpace : {T E : Type 0} → (T → TpmState) → Space → FuseTpm T → FuseTpm T → Result Unit E → Type 0
 FuseLocksSpace state space old new result = PassesUnlessDead (LocksSpace space (state old.inner) (state new.inner) result) old new result
@@ -37,7 +38,8 @@ pub record OneWrite (space : Space) (bytes : List ℕ) (old new : TpmState) : Ty
   pub written : WritesSpace space bytes old new answer
 
 -- A write, on a fuse.
-pub record FuseWrites {T E : Type 0} (state : T → TpmState) (space : Space) (bytes : List ℕ) (old new : FuseTpm T) (result : Result Unit E) : Type 0 where
+pub record FuseWrites {T E : Type 0} (state : T → TpmState) (space : Space) (bytes : List ℕ) (old new : FuseTpm T)
+    (result : Result Unit E) : Type 0 where
   -- the stop moves by one call
   pub stop : new.counters.stop ≡ stop_after old.counters.stop
   -- a dead fuse refuses the write, and the TPM below is as it was
@@ -46,4 +48,5 @@ pub record FuseWrites {T E : Type 0} (state : T → TpmState) (space : Space) (b
   -- the chosen write fails: it does not happen where nothing is to be kept
   pub nothing : turn_of old.counters.stop ≡ Stop 0 → IsErr result × (new.inner ≡ old.inner)
   -- and where anything is, it is made once and does no more where it fails
-  pub chosen : (keep : ℕ) → 1 ≤ keep → turn_of old.counters.stop ≡ Stop keep → IsErr result × OneWrite space bytes (state old.inner) (state new.inner)
+  pub chosen : (keep : ℕ) → 1 ≤ keep → turn_of old.counters.stop ≡ Stop keep → IsErr result
+      × OneWrite space bytes (state old.inner) (state new.inner)

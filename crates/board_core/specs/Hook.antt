@@ -29,7 +29,8 @@ pub record IsRowOf (number : ℕ) (key_bytes message_digest signature_bytes : Li
   pub signature : row.signature ≡ sha256 signature_bytes
 
 -- The call to verify a signature. It changes no row.
-pub record Verifies {E : Type 0} (number : ℕ) (key_bytes message_digest signature_bytes : List ℕ) (old new : HookState) (result : Result Bool E) : Type 0 where
+pub record Verifies {E : Type 0} (number : ℕ) (key_bytes message_digest signature_bytes : List ℕ) (old new : HookState)
+    (result : Result Bool E) : Type 0 where
   pub faults : CountsFaults old.faults new.faults (is_err result)
   pub told : new.told ≡ old.told
   pub rows : new.rows ≡ old.rows

@@ -13,12 +13,14 @@ padded_piece bytes = take 512 bytes ++ replicate (512 - length bytes) 0
 
 -- the first piece of a torn range
 abbrev pub torn_piece : ℕ → List ℕ → List ℕ → List ℕ → Torn
-torn_piece at was meant left = record { at = at; len = min (length meant) 512; was = padded_piece was; meant = padded_piece meant; left = padded_piece left }
+torn_piece at was meant left =
+    record { at = at; len = min (length meant) 512; was = padded_piece was; meant = padded_piece meant; left = padded_piece left }
 
 -- so many pieces of a torn range, each of at most 512 bytes
 abbrev pub torn_pieces : ℕ → ℕ → List ℕ → List ℕ → List ℕ → List Torn
 torn_pieces zero at was meant left = []
-torn_pieces (suc count) at was meant left = torn_piece at was meant left ∷ torn_pieces count (at + 512) (drop 512 was) (drop 512 meant) (drop 512 left)
+torn_pieces (suc count) at was meant left =
+    torn_piece at was meant left ∷ torn_pieces count (at + 512) (drop 512 was) (drop 512 meant) (drop 512 left)
 
 -- the records of a range with these old, intended and left bytes
 unfoldable pub torn_records : ℕ → List ℕ → List ℕ → List ℕ → List Torn

@@ -24,7 +24,8 @@ pub record World : Type 0 where
   pub map_at : ℕ
 
 -- the world of a platform, from what each kind of device holds; what a disk holds is in the type of its fuse
-abbrev pub world : {F T D E H : Type 0} {disk : Ghosts D} {stick : Ghosts E} → (F → FlashState) → (T → TpmState) → (H → HookState) → Platform F T D E H disk stick → World
+abbrev pub world : {F T D E H : Type 0} {disk : Ghosts D} {stick : Ghosts E} → (F → FlashState) → (T → TpmState) → (H → HookState)
+    → Platform F T D E H disk stick → World
 world flash tpm hook p = record {
   flash = fuse_state flash p.flash;
   tpm = fuse_tpm_state tpm p.tpm;

@@ -10,6 +10,7 @@ use crate::device::Failed;
 use crate::disk::Disk;
 use crate::fuse_disk::FuseDisk;
 use crate::fuse_disk_parts::{cut_write, flush_below, read_below, settle, write_after_read};
+use crate::torn::Torn;
 use std::alloc::{AllocError, Global};
 
 impl<D: Disk> FuseDisk<D> {
@@ -80,6 +81,13 @@ impl<D: Disk> FuseDisk<D> {
     {
         self.counters.stop = FuseState::Unarmed;
         self.counters.settings = raise(self.counters.settings);
+    }
+
+    /// The records of what the stop of this fuse left torn, the oldest first. Those of the disk below are its own.
+    pub fn torn(&self) -> &[Torn]
+        ensures { result.now ≡ self.now.torn.items }
+    {
+        &self.torn
     }
 }
 

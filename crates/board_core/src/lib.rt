@@ -18,8 +18,6 @@ mod fuse_calls;
 mod fuse_disk;
 mod fuse_disk_calls;
 mod fuse_disk_parts;
-#[cfg(test)]
-mod fuse_disk_tests;
 mod fuse_tpm;
 mod fuse_tpm_calls;
 mod hook;

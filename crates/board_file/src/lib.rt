@@ -12,16 +12,12 @@ mod file_hook;
 mod file_tpm;
 mod hook_file;
 mod hook_file_fault;
-#[cfg(test)]
-mod hook_file_tests;
 mod hook_text;
 mod open_fault;
 mod place;
 mod std_sink;
 mod std_source;
 mod stream;
-#[cfg(test)]
-mod tests;
 
 pub use file_disk::{FileDisk, open_disk, open_stick};
 pub use file_flash::{FileFlash, open_flash};

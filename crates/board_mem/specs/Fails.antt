@@ -57,4 +57,5 @@ observed_counters failed counters = record counters { faults = count_with failed
 
 -- the counters after a changing call
 abbrev pub changed_counters : Bool → Counters → Counters
-changed_counters failed counters = record counters { faults = count_with failed counters.faults; failed_changes = count_with failed counters.failed_changes }
+changed_counters failed counters =
+    record counters { faults = count_with failed counters.faults; failed_changes = count_with failed counters.failed_changes }

@@ -28,5 +28,8 @@ range_left remains at meant bytes = left_by remains (range bytes at (length mean
 
 -- A change of a range that failed: what remains stands in all of the range, and all of the range is noted as torn.
 pub record LeavesRange (remains : Remains) (at : ℕ) (meant : List ℕ) (old new : MemFlash) : Type 0 where
-  pub bytes : (mem_flash_state new).medium.bytes ≡ spliced (mem_flash_state old).medium.bytes at (range_left remains at meant (mem_flash_state old).medium.bytes)
-  pub torn : mem_flash_torn new ≡ mem_flash_torn old ++ torn_records at (range (mem_flash_state old).medium.bytes at (length meant)) meant (range_left remains at meant (mem_flash_state old).medium.bytes)
+  pub bytes : (mem_flash_state new).medium.bytes ≡ spliced (mem_flash_state old).medium.bytes at
+      (range_left remains at meant (mem_flash_state old).medium.bytes)
+  pub torn : mem_flash_torn new ≡ mem_flash_torn old
+      ++ torn_records at (range (mem_flash_state old).medium.bytes at (length meant)) meant
+      (range_left remains at meant (mem_flash_state old).medium.bytes)

@@ -17,4 +17,5 @@ mem_sink_capacity sink = sink.capacity
 
 -- whether a put of so many bytes is to fail: the list names it, or the bytes do not fit
 abbrev pub refuses_put : MemSink → ℕ → Bool
-refuses_put sink count = is_some (next_failure (mem_sink_plan sink)) || nat_lt (mem_sink_capacity sink) (length (mem_sink_state sink).bytes + count)
+refuses_put sink count =
+    is_some (next_failure (mem_sink_plan sink)) || nat_lt (mem_sink_capacity sink) (length (mem_sink_state sink).bytes + count)

@@ -26,8 +26,3 @@ pub use mem_sink::MemSink;
 pub use mem_source::MemSource;
 pub use mem_tpm::MemTpm;
 pub use table_hook::TableHook;
-
-#[cfg(test)]
-mod disk_tests;
-#[cfg(test)]
-mod tests;

@@ -48,6 +48,13 @@ impl MemDisk {
     {
         self.sectors_read
     }
+
+    /// The records of what its failed calls left torn, the oldest first.
+    pub fn torn(&self) -> &[Torn]
+        ensures { result.now ≡ mem_disk_torn self.now }
+    {
+        &self.torn
+    }
 }
 
 // Leaves the sector of a write torn, and notes it.

@@ -90,7 +90,8 @@ mode_of facts =
     ∷ mode_where (facts.recovery || has_flag (flags_of facts.gbb) gbb_manual_recovery) Manual
     ∷ broken_where reason_firmware_space (fault_of facts.firmware)
     ∷ broken_where reason_kernel_space facts.kernel
-    ∷ mode_where (not (field_of facts.nv field.RecoveryRequest == 0)) (Broken (field_of facts.nv field.RecoveryRequest) (field_of facts.nv field.RecoverySubcode))
+    ∷ mode_where (not (field_of facts.nv field.RecoveryRequest == 0))
+    (Broken (field_of facts.nv field.RecoveryRequest) (field_of facts.nv field.RecoverySubcode))
     ∷ mode_where (is_developer_on facts) Developer
     ∷ [])
     Normal

@@ -18,7 +18,8 @@ trying = 1
 
 -- the last boot tried the slot that is to be tried next, it did not come to an end, and no try is left
 abbrev pub has_run_out : List ℕ → Bool
-has_run_out r = (field_of r field.Result == trying) && (field_of r field.Tried == field_of r field.TryNext) && (field_of r field.TryCount == 0)
+has_run_out r =
+    (field_of r field.Result == trying) && (field_of r field.Tried == field_of r field.TryNext) && (field_of r field.TryCount == 0)
 
 -- the slot to try next, but the other one where its tries have run out
 abbrev pub slot_to_try : Bool → ℕ → Slot
@@ -45,7 +46,8 @@ with_values value (f ∷ fs) r = with_values value fs (with_field r f (value f))
 
 -- the record after the selection
 abbrev pub selected_record : List ℕ → List ℕ
-selected_record r = with_values (selected_value r) (field.PrevTried ∷ field.PrevResult ∷ field.Result ∷ field.TryCount ∷ field.TryNext ∷ field.Tried ∷ []) r
+selected_record r =
+    with_values (selected_value r) (field.PrevTried ∷ field.PrevResult ∷ field.Result ∷ field.TryCount ∷ field.TryNext ∷ field.Tried ∷ []) r
 
 -- what the selection answers
 abbrev pub selection_of : List ℕ → Selection

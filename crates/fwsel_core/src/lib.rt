@@ -14,6 +14,3 @@ pub use failure::fail;
 pub use flags::boot_flags;
 pub use selection::{Selection, select};
 pub use slot::Slot;
-
-#[cfg(test)]
-mod tests;

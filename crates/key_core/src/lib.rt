@@ -14,6 +14,3 @@ pub use fault::{KeyFault, KeyblockFault};
 pub use key::{KeyView, LARGEST_KEY, PackedKey, pack};
 pub use keyblock::{KeyblockView, Seal};
 pub use parts::{KeyHead, SignatureHead, is_inside, key_at, signature_at};
-
-#[cfg(test)]
-mod tests;

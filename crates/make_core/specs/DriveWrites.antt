@@ -24,7 +24,8 @@ pub record WritesPiece (lba : ℕ) (meant : List ℕ) (old new : DiskState) (fai
 pub record StoppedAt (image : List ℕ) (old new : DiskMedium) : Type 0 where
   pub piece : ℕ
   pub among : piece < 256
-  pub left : LeftDiskTorn [] (write_records (piece * 64) (range image (piece * 32768) 32768) (with_bytes (begun (piece * 32768) image old.bytes) old))
+  pub left : LeftDiskTorn [] (write_records (piece * 64) (range image (piece * 32768) 32768)
+      (with_bytes (begun (piece * 32768) image old.bytes) old))
       (with_bytes (begun (piece * 32768) image old.bytes) old) new
 
 -- The drive was made this image, or it failed.

@@ -50,4 +50,5 @@ pub record WritesFlash (image : List ℕ) (old new : FlashState) (failed : Bool)
   -- the pages before some page are the image's, and those behind it are as they were
   pub err : IsTrue old.medium.told → IsTrue failed →
       (page : ℕ) × (page < 256)
-      × LeftInPage (page * 4096) (range image (page * 4096) 4096) (holding (begun (page * 4096) image old.medium.bytes) old.medium) new.medium
+      × LeftInPage (page * 4096) (range image (page * 4096) 4096)
+      (holding (begun (page * 4096) image old.medium.bytes) old.medium) new.medium

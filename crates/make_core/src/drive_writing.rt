@@ -47,7 +47,8 @@ pub fn write_drive<D: Disk>(disk: &mut D, number: u32, drive: &Drive) -> Result<
 pub fn write_stick<D: Disk>(stick: &mut D, number: u32) -> Result<(), Failed>
     requires settled { (D.state stick.old).medium.pending ≡ 0 }
     requires size { ((D.state stick.old).medium.sectors ≡ 0) ⊎ ((D.state stick.old).medium.sectors ≡ 16384) }
-    ensures { WritesStick (machine_stick number) (D.state stick.old).medium.sectors (D.state stick.old) (D.state stick.new) (is_err result) }
+    ensures { WritesStick (machine_stick number) (D.state stick.old).medium.sectors (D.state stick.old) (D.state stick.new)
+        (is_err result) }
 {
     if stick.sectors() == 0 {
         return Ok(());

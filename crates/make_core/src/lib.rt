@@ -23,8 +23,8 @@ mod putting;
 mod rows;
 mod slot;
 mod spaces;
-#[cfg(test)]
-mod tests;
 mod writing;
 
+pub use layout::FLASH_SIZE;
 pub use making::{MakeFault, make};
+pub use rows::make_rows;

@@ -8,4 +8,3 @@ pub mod Pieces
 pub mod Answering
 pub mod Appending
 pub mod Switching
-pub mod FairRemains

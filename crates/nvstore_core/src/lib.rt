@@ -10,9 +10,8 @@ mod loading;
 mod page;
 mod saving;
 mod state;
-#[cfg(test)]
-mod tests;
 
 pub use loading::load;
+pub use page::page_head;
 pub use saving::save;
 pub use state::NvState;

@@ -10,6 +10,3 @@ pub mod layout;
 pub use fault::{FwPreambleFault, KernelPreambleFault};
 pub use firmware::FwPreambleView;
 pub use kernel::KernelPreambleView;
-
-#[cfg(test)]
-mod tests;

@@ -12,6 +12,3 @@ pub use fw_space::FwSpace;
 pub use kernel_space::KernelSpace;
 pub use nv::Nv;
 pub use space::SpaceFault;
-
-#[cfg(test)]
-mod tests;

@@ -102,7 +102,8 @@ key_of size bytes = if holds_key size bytes then Some (packed_in bytes) else Non
 
 -- both parts hold their keys
 abbrev pub keys_are_inside : List ℕ → GbbHead → Bool
-keys_are_inside bytes head = holds_key head.root.size (part_bytes bytes head.root) && holds_key head.recovery.size (part_bytes bytes head.recovery)
+keys_are_inside bytes head =
+    holds_key head.root.size (part_bytes bytes head.root) && holds_key head.recovery.size (part_bytes bytes head.recovery)
 
 -- ---- the GBB
 
@@ -160,7 +161,8 @@ pub record ReadsGbb {E : Type 0} (area : Area) (old new : FlashState) (result : 
   -- the flash holds what it held
   pub medium : new.medium ≡ old.medium
   -- a fault is the first of the table over the area's bytes
-  pub fault : IsTrue old.medium.told → IfOk result (λ answer. IfErr answer (λ fault. first_fault gbb_lines (area_bytes area old.medium) ≡ Some fault))
+  pub fault : IsTrue old.medium.told → IfOk result
+      (λ answer. IfErr answer (λ fault. first_fault gbb_lines (area_bytes area old.medium) ≡ Some fault))
   -- a GBB is answered only where none of its tests holds
   pub none : IsTrue old.medium.told → IfOk result (λ answer. OnOk answer (first_fault gbb_lines (area_bytes area old.medium) ≡ None))
   -- and is what the area's bytes hold

@@ -110,7 +110,8 @@ any_outside size areas = list_any (is_outside size) (areas.gbb ∷ written_areas
 
 abbrev pub any_too_large : Map → Bool
 any_too_large areas =
-    nat_lt 65536 areas.vblock_a.size || nat_lt 65536 areas.vblock_b.size || nat_lt 16777216 areas.main_a.size || nat_lt 16777216 areas.main_b.size
+    nat_lt 65536 areas.vblock_a.size || nat_lt 65536 areas.vblock_b.size || nat_lt 16777216 areas.main_a.size
+    || nat_lt 16777216 areas.main_b.size
 
 -- nvdata does not begin at a page, or has not two of them
 abbrev pub is_misshapen : Map → Bool

@@ -25,9 +25,11 @@ map_of_rows at count medium = record { size = medium.size; at = at; rows = rows_
 pub record ReadsAreas (at count : ℕ) (old new : FlashState) (result : Result (Result Map MapFault) Failed) : Type 0 where
   pub counters : Observed old.counters new.counters (is_err result)
   pub medium : new.medium ≡ old.medium
-  pub fault : IsTrue old.medium.told → IfOk result (λ answer. IfErr answer (λ fault. first_fault area_lines (map_of_rows at count old.medium) ≡ Some fault))
+  pub fault : IsTrue old.medium.told → IfOk result
+      (λ answer. IfErr answer (λ fault. first_fault area_lines (map_of_rows at count old.medium) ≡ Some fault))
   pub none : IsTrue old.medium.told → IfOk result (λ answer. OnOk answer (first_fault area_lines (map_of_rows at count old.medium) ≡ None))
-  pub areas : IsTrue old.medium.told → IfOk result (λ answer. IfOk answer (λ map. areas_in (map_of_rows at count old.medium).rows ≡ Some map))
+  pub areas : IsTrue old.medium.told → IfOk result
+      (λ answer. IfOk answer (λ map. areas_in (map_of_rows at count old.medium).rows ≡ Some map))
   pub fits : IfOk result (λ answer. IfOk answer (FitsFlash old.medium.size))
   pub apart : IfOk result (λ answer. IfOk answer (IsApart at count))
 
@@ -36,10 +38,12 @@ pub record ReadsMap (at : ℕ) (old new : FlashState) (result : Result (Result M
   pub counters : Observed old.counters new.counters (is_err result)
   pub medium : new.medium ≡ old.medium
   -- the fault is that of the map table, and there is none where areas are answered
-  pub fault : IsTrue old.medium.told → IfOk result (λ answer. IfErr answer (λ fault. first_fault map_lines (map_question at old.medium) ≡ Some fault))
+  pub fault : IsTrue old.medium.told → IfOk result
+      (λ answer. IfErr answer (λ fault. first_fault map_lines (map_question at old.medium) ≡ Some fault))
   pub none : IsTrue old.medium.told → IfOk result (λ answer. OnOk answer (first_fault map_lines (map_question at old.medium) ≡ None))
   -- the areas are those that the rows name
-  pub areas : IsTrue old.medium.told → IfOk result (λ answer. IfOk answer (λ map. areas_in (standing_map (map_question at old.medium)).rows ≡ Some map))
+  pub areas : IsTrue old.medium.told → IfOk result
+      (λ answer. IfOk answer (λ map. areas_in (standing_map (map_question at old.medium)).rows ≡ Some map))
   -- whatever the flash tells, they fit it
   pub fits : IfOk result (λ answer. IfOk answer (FitsFlash old.medium.size))
   -- the pages of nvdata are none of the bytes that the map and the other areas have
@@ -67,7 +71,8 @@ pub record HasNoMap (size : ℕ) (bytes : List ℕ) (at : ℕ) : Type 0 where
 pub record Locates (old new : FlashState) (result : Result ℕ Failed) : Type 0 where
   pub counters : Observed old.counters new.counters (is_err result)
   pub medium : new.medium ≡ old.medium
-  pub place : IsTrue old.medium.told → IfOk result (λ at. IsLowestMap old.medium.size old.medium.bytes 0 at ⊎ HasNoMap old.medium.size old.medium.bytes at)
+  pub place : IsTrue old.medium.told → IfOk result (λ at.
+      IsLowestMap old.medium.size old.medium.bytes 0 at ⊎ HasNoMap old.medium.size old.medium.bytes at)
 
 -- a page is looked through, from its first byte on
 pub record LooksThrough (at : ℕ) (old new : FlashState) (result : Result (Option ℕ) Failed) : Type 0 where
@@ -80,7 +85,8 @@ pub record LooksThrough (at : ℕ) (old new : FlashState) (result : Result (Opti
 
 -- no head of a map stands at a multiple of 64 under a limit
 abbrev pub NoHeadBelow : (size at : ℕ) → List ℕ → ℕ → Type 0
-NoHeadBelow size at page limit = (place : ℕ) → place < limit → place + 56 ≤ length page → place % 64 ≡ 0 → is_map_head size (at + place) (range page place 56) ≡ false
+NoHeadBelow size at page limit =
+    (place : ℕ) → place < limit → place + 56 ≤ length page → place % 64 ≡ 0 → is_map_head size (at + place) (range page place 56) ≡ false
 
 -- the first head of a map in a page, which begins at a place of the flash
 pub record IsFirstHead (size at : ℕ) (page : List ℕ) (found : ℕ) : Type 0 where

@@ -10,18 +10,12 @@ mod area;
 mod fault;
 mod gbb;
 mod gbb_parts;
-#[cfg(test)]
-mod gbb_tests;
 pub mod layout;
 mod map;
 mod map_locating;
 mod map_reading;
 mod map_rows;
-#[cfg(test)]
-mod map_tests;
 mod names;
-#[cfg(test)]
-mod test_flash;
 
 pub use area::Area;
 pub use fault::{GbbFault, MapFault};

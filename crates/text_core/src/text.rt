@@ -75,4 +75,16 @@ impl Text {
         self.push(b"0x");
         self.push(&digits);
     }
+
+    /// Appends `0x` and the sixteen hexadecimal digits of a number, in lower case.
+    pub fn push_long_hex(&mut self, number: u64)
+        requires { length self.old + 18 ≤ 2048 }
+        ensures text { self.new ≡ self.old ++ hex_number 8 number }
+        ensures size { length self.new ≡ length self.old + 18 }
+    {
+        let mut digits = [0; 16];
+        let _ = hex::encode_to_slice(number.to_be_bytes(), &mut digits);
+        self.push(b"0x");
+        self.push(&digits);
+    }
 }

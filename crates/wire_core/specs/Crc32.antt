@@ -34,4 +34,5 @@ all_ones = replicate 32 1
 -- The remainder of the bytes' bits, followed by 32 zero bits, on division by x^32 and that. The first 32 bits are
 -- complemented before it, and so is the remainder. Its highest coefficient is the least significant bit.
 unfoldable pub crc32_of : List ℕ → ℕ
-crc32_of bytes = number_of_low_bits (less (remainder crc32_divisor (8 * length bytes) (less (low_bits_of bytes ++ replicate 32 0) all_ones)) all_ones)
+crc32_of bytes =
+    number_of_low_bits (less (remainder crc32_divisor (8 * length bytes) (less (low_bits_of bytes ++ replicate 32 0) all_ones)) all_ones)

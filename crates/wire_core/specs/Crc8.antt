@@ -8,7 +8,8 @@ use Rattle.std.specs.List.{flat_map}
 
 -- the bits of a byte, the most significant first
 abbrev pub byte_bits : ℕ → List ℕ
-byte_bits byte = bit_at byte 7 ∷ bit_at byte 6 ∷ bit_at byte 5 ∷ bit_at byte 4 ∷ bit_at byte 3 ∷ bit_at byte 2 ∷ bit_at byte 1 ∷ bit_at byte 0 ∷ []
+byte_bits byte =
+    bit_at byte 7 ∷ bit_at byte 6 ∷ bit_at byte 5 ∷ bit_at byte 4 ∷ bit_at byte 3 ∷ bit_at byte 2 ∷ bit_at byte 1 ∷ bit_at byte 0 ∷ []
 
 -- the bits of some bytes, one byte after the other
 abbrev pub bits_of : List ℕ → List ℕ

@@ -1,5 +1,5 @@
 -- The table of a body, and answers of its check.
-use Rattle.std.proofs.Common.{◌≡◌, ℕ, ◌≤◌, ◌<◌, Bool, true, false, cond, not, Option, Some, None, List, Ok, length, take, refl, ap, sym, ◌∙◌, ◌==◌, arith, rules}
+use Rattle.std.proofs.Common.{◌≡◌, ℕ, ◌≤◌, ◌<◌, Bool, true, false, cond, not, Some, None, List, Ok, length, take, refl, ap, sym, ◌∙◌, ◌==◌, arith, rules}
 use Rattle.std.specs.Prelude.{IsTrue, nat_lt}
 use Rattle.std.proofs.lemmas.Bool.{le-ltb}
 use Rattle.wire_core.specs.FirstFault.{first_fault}
@@ -15,13 +15,11 @@ use Rattle.chain_core.specs.Tables.{BodyQuestion, body_table}
 use Rattle.chain_core.specs.Bodies.{ChecksBody, body_question}
 use Rattle.chain_core.specs.declared.fault.BodyFault.{BodyFault}
 use Rattle.chain_core.specs.declared.fault.BodyFault.TheVariants as faults
-use Rattle.chain_core.proofs.Lifted.{is_other, is_same}
+use Rattle.chain_core.proofs.Said.{asked_none}
+use Rattle.chain_core.proofs.FourLines.{of_tests, by_first, by_second, by_third, by_last}
+use Rattle.chain_core.proofs.Lifted.{is_other, is_same, over}
 
 -- ---- the table
-
--- four lines, by what their tests are
-abbrev of_tests : (empty large size refused : Bool) → Option BodyFault
-of_tests empty large size refused = cond empty (Some faults.Empty) (cond large (Some faults.TooLarge) (cond size (Some faults.SigSize) (cond refused (Some faults.Refused) None)))
 
 abbrev empty_test : BodyQuestion → Bool
 empty_test q = q.len == 0
@@ -35,21 +33,9 @@ size_test q = not (q.signature_size == signature_length q.key.algorithm)
 abbrev enrolled : BodyQuestion → Bool
 enrolled q = is_enrolled q.rows q.key (take q.len q.bytes) q.signature
 
-by_tests : (q : BodyQuestion) → first_fault body_table q ≡ of_tests (empty_test q) (large_test q) (size_test q) (not (enrolled q))
+by_tests : (q : BodyQuestion) → first_fault body_table q ≡ of_tests faults.Empty faults.TooLarge faults.SigSize faults.Refused (empty_test q) (large_test q) (size_test q) (not (enrolled q))
 unfolding body_table
 by_tests q = refl
-
-by_empty : (a b c d : Bool) → a ≡ true → of_tests a b c d ≡ Some faults.Empty
-by_empty a b c d e = ap (λ t. of_tests t b c d) e
-
-by_large : (a b c d : Bool) → a ≡ false → b ≡ true → of_tests a b c d ≡ Some faults.TooLarge
-by_large a b c d e f = ap (λ t. of_tests t b c d) e ∙ ap (λ t. of_tests false t c d) f
-
-by_size : (a b c d : Bool) → a ≡ false → b ≡ false → c ≡ true → of_tests a b c d ≡ Some faults.SigSize
-by_size a b c d e f h = ap (λ t. of_tests t b c d) e ∙ ap (λ t. of_tests false t c d) f ∙ ap (λ t. of_tests false false t d) h
-
-by_last : (a b c d d' : Bool) → a ≡ false → b ≡ false → c ≡ false → d ≡ d' → of_tests a b c d ≡ cond d' (Some faults.Refused) None
-by_last a b c d d' e f h k = ap (λ t. of_tests t b c d) e ∙ ap (λ t. of_tests false t c d) f ∙ ap (λ t. of_tests false false t d) h ∙ ap (λ t. of_tests false false false t) k
 
 zero_yes : (n : ℕ) → n ≡ 0 → (n == 0) ≡ true
 zero_yes n e = grind arith
@@ -57,28 +43,25 @@ zero_yes n e = grind arith
 zero_not : (n : ℕ) → (n ≡ 0 → ⊥) → (n == 0) ≡ false
 zero_not n e = grind arith
 
-over : (n m : ℕ) → n < m → nat_lt n m ≡ true
-over n m h = grind arith
-
 pub empty_fault : (q : BodyQuestion) → q.len ≡ 0 → first_fault body_table q ≡ Some faults.Empty
-empty_fault q e = by_tests q ∙ by_empty (empty_test q) (large_test q) (size_test q) (not (enrolled q)) (zero_yes q.len e)
+empty_fault q e = by_tests q ∙ by_first _ _ _ _ (empty_test q) (large_test q) (size_test q) (not (enrolled q)) (zero_yes q.len e)
 
 pub large_fault : (q : BodyQuestion) → (q.len ≡ 0 → ⊥) → q.most < q.len → first_fault body_table q ≡ Some faults.TooLarge
-large_fault q some large = by_tests q ∙ by_large (empty_test q) (large_test q) (size_test q) (not (enrolled q)) (zero_not q.len some) (over q.most q.len large)
+large_fault q some large = by_tests q ∙ by_second _ _ _ _ (empty_test q) (large_test q) (size_test q) (not (enrolled q)) (zero_not q.len some) (over q.most q.len large)
 
 pub size_fault : (q : BodyQuestion) → (q.len ≡ 0 → ⊥) → q.len ≤ q.most → (q.signature_size ≡ signature_length q.key.algorithm → ⊥) → first_fault body_table q ≡ Some faults.SigSize
-size_fault q some fits other = by_tests q ∙ by_size (empty_test q) (large_test q) (size_test q) (not (enrolled q)) (zero_not q.len some) (le-ltb q.most q.len fits) (is_other q.signature_size (signature_length q.key.algorithm) other)
+size_fault q some fits other = by_tests q ∙ by_third _ _ _ _ (empty_test q) (large_test q) (size_test q) (not (enrolled q)) (zero_not q.len some) (le-ltb q.most q.len fits) (is_other q.signature_size (signature_length q.key.algorithm) other)
 
 -- the hook decides
 pub last_line : (q : BodyQuestion) (said : Bool) → (q.len ≡ 0 → ⊥) → q.len ≤ q.most → q.signature_size ≡ signature_length q.key.algorithm → said ≡ is_enrolled q.rows q.key (take q.len q.bytes) q.signature
     → first_fault body_table q ≡ cond (not said) (Some faults.Refused) None
 last_line q said some fits size says =
     by_tests q
-    ∙ by_last (empty_test q) (large_test q) (size_test q) (not (enrolled q)) (not said) (zero_not q.len some) (le-ltb q.most q.len fits) (is_same q.signature_size (signature_length q.key.algorithm) size) (ap not (sym says))
+    ∙ by_last _ _ _ _ (empty_test q) (large_test q) (size_test q) (not (enrolled q)) (not said) (zero_not q.len some) (le-ltb q.most q.len fits) (is_same q.signature_size (signature_length q.key.algorithm) size) (ap not (sym says))
 
 -- ---- answers
 
-pub looks_none : (a : FlashState) → Looks a a false
+looks_none : (a : FlashState) → Looks a a false
 looks_none a = search rules
 
 -- the first bytes of an area, which were read and asked for
@@ -98,6 +81,12 @@ body_fault key signature main len flash flash' hook hook' body fault looks asked
   many = tt;
   filled = λ told. tt;
 }
+
+-- a fault that is found before anything is read
+pub body_unread : (key : PackedKey) (signature : List ℕ) (main : Area) (len : ℕ) (flash : FlashState) (hook : HookState) (body : List ℕ) (fault : BodyFault)
+    → first_fault body_table (body_question key signature main len flash hook) ≡ Some fault → ChecksBody key signature main len flash flash hook hook body (Ok (Some fault))
+body_unread key signature main len flash hook body fault found =
+    body_fault key signature main len flash flash hook hook body fault (looks_none flash) (asked_none hook) (λ told told'. found)
 
 pub body_good : (key : PackedKey) (signature : List ℕ) (main : Area) (len : ℕ) (flash flash' : FlashState) (hook hook' : HookState) (body : List ℕ) → Looks flash flash' false → Asked hook hook' false
     → (IsTrue flash.medium.told → IsTrue hook.told → first_fault body_table (body_question key signature main len flash hook) ≡ None)

@@ -1,4 +1,4 @@
--- The tables of a keyblock and of a preamble, line group by line group.
+-- The table of a keyblock, line group by line group.
 use Rattle.std.proofs.Common.{◌≡◌, ℕ, Bool, true, false, cond, not, Some, None, List, ◌++◌, length, refl, ap, sym, ◌∙◌, ◌==◌}
 use Rattle.wire_core.specs.FirstFault.{Table, first_fault}
 use Rattle.wire_core.proofs.FirstFault.{first_fault-append, first_fault-append_some}
@@ -95,14 +95,20 @@ seal_size_fault q keyblock viewed signer other =
     seal_at q keyblock_faults.SealSize viewed.none signer
     (two_size (seal_of seals.Signature q.bytes).size (signature_length q.signer.algorithm) (is_enrolled q.rows (key_of q.signer) (keyblock_of q).signed (keyblock_of q).seal_bytes) keyblock_faults.SealSize keyblock_faults.Refused (λ e. other (viewed.seal_size ∙ e)))
 
-pub refused_fault : (q : KeyblockQuestion) (keyblock : Keyblock) (said : Bool) → Viewed q keyblock → first_fault signer_lines (signer_question q) ≡ None → length keyblock.seal_bytes ≡ signature_length q.signer.algorithm
-    → said ≡ is_enrolled q.rows (key_of q.signer) keyblock.signed keyblock.seal_bytes → said ≡ false → first_fault keyblock_table q ≡ Some keyblock_faults.Refused
-refused_fault q keyblock said viewed signer size says is =
-    seal_at q keyblock_faults.Refused viewed.none signer
-    (two_refused (seal_of seals.Signature q.bytes).size (signature_length q.signer.algorithm) (is_enrolled q.rows (key_of q.signer) (keyblock_of q).signed (keyblock_of q).seal_bytes) keyblock_faults.SealSize keyblock_faults.Refused (sym viewed.seal_size ∙ size)
-    (enrolled_same q keyblock said false viewed.parts says is))
+-- The seal has the right size, and the hook said this.
+pub record Answered (q : KeyblockQuestion) (keyblock : Keyblock) (said : Bool) : Type 0 where
+  pub viewed : Viewed q keyblock
+  pub signer : first_fault signer_lines (signer_question q) ≡ None
+  pub size : length keyblock.seal_bytes ≡ signature_length q.signer.algorithm
+  pub says : said ≡ is_enrolled q.rows (key_of q.signer) keyblock.signed keyblock.seal_bytes
 
-same_data_key : (a b : DataKeyQuestion) → a.algorithm ≡ b.algorithm → a.size ≡ b.size → a.version ≡ b.version → a.stored ≡ b.stored → a.rollback ≡ b.rollback → a ≡ b
+pub refused_fault : (q : KeyblockQuestion) (keyblock : Keyblock) (said : Bool) → Answered q keyblock said → said ≡ false → first_fault keyblock_table q ≡ Some keyblock_faults.Refused
+refused_fault q keyblock said answered is =
+    seal_at q keyblock_faults.Refused answered.viewed.none answered.signer
+    (two_refused (seal_of seals.Signature q.bytes).size (signature_length q.signer.algorithm) (is_enrolled q.rows (key_of q.signer) (keyblock_of q).signed (keyblock_of q).seal_bytes) keyblock_faults.SealSize keyblock_faults.Refused (sym answered.viewed.seal_size ∙ answered.size)
+    (enrolled_same q keyblock said false answered.viewed.parts answered.says is))
+
+pub same_data_key : (a b : DataKeyQuestion) → a.algorithm ≡ b.algorithm → a.size ≡ b.size → a.version ≡ b.version → a.stored ≡ b.stored → a.rollback ≡ b.rollback → a ≡ b
 same_data_key a b h s v t r = λ i. record { algorithm = h i; size = s i; version = v i; stored = t i; rollback = r i }
 
 pub data_key_same : (q : KeyblockQuestion) (keyblock : Keyblock) → Viewed q keyblock → view_question keyblock.data_key q.stored q.rollback ≡ data_key_question q
@@ -110,12 +116,11 @@ data_key_same q keyblock viewed =
     same_data_key (view_question keyblock.data_key q.stored q.rollback) (data_key_question q) (ap (λ (k : Keyblock). k.data_key.algorithm) viewed.parts) viewed.key_size (ap (λ (k : Keyblock). k.data_key.version) viewed.parts) refl refl
 
 -- the seal is good, so the data key decides
-pub sealed : (q : KeyblockQuestion) (keyblock : Keyblock) (said : Bool) → Viewed q keyblock → first_fault signer_lines (signer_question q) ≡ None → length keyblock.seal_bytes ≡ signature_length q.signer.algorithm
-    → said ≡ is_enrolled q.rows (key_of q.signer) keyblock.signed keyblock.seal_bytes → said ≡ true → first_fault keyblock_table q ≡ first_fault data_key_part q
-sealed q keyblock said viewed signer size says is =
-    key_at q viewed.none signer
-    (two_none (seal_of seals.Signature q.bytes).size (signature_length q.signer.algorithm) (is_enrolled q.rows (key_of q.signer) (keyblock_of q).signed (keyblock_of q).seal_bytes) keyblock_faults.SealSize keyblock_faults.Refused (sym viewed.seal_size ∙ size)
-    (enrolled_same q keyblock said true viewed.parts says is))
+pub sealed : (q : KeyblockQuestion) (keyblock : Keyblock) (said : Bool) → Answered q keyblock said → said ≡ true → first_fault keyblock_table q ≡ first_fault data_key_part q
+sealed q keyblock said answered is =
+    key_at q answered.viewed.none answered.signer
+    (two_none (seal_of seals.Signature q.bytes).size (signature_length q.signer.algorithm) (is_enrolled q.rows (key_of q.signer) (keyblock_of q).signed (keyblock_of q).seal_bytes) keyblock_faults.SealSize keyblock_faults.Refused (sym answered.viewed.seal_size ∙ answered.size)
+    (enrolled_same q keyblock said true answered.viewed.parts answered.says is))
 
 pub data_key_some : (q : KeyblockQuestion) (keyblock : Keyblock) (fault : KeyblockFault) → Viewed q keyblock → first_fault data_key_lines (view_question keyblock.data_key q.stored q.rollback) ≡ Some fault → first_fault data_key_part q ≡ Some fault
 data_key_some q keyblock fault viewed e = lifted-some data_key_question same_fault data_key_lines q fault (ap (first_fault data_key_lines) (sym (data_key_same q keyblock viewed)) ∙ e)

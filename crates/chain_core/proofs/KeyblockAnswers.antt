@@ -13,28 +13,12 @@ use Rattle.chain_core.specs.Checking.{keyblock_question, view_question, ChecksKe
 
 pub keyblock_fault : {E : Type 0} (bytes : List ℕ) (signer : PackedKey) (stored : ℕ) (rollback : Bool) (old new : HookState) (fault : KeyblockFault) → Asked old new false
     → (IsTrue old.told → first_fault keyblock_table (keyblock_question bytes signer stored rollback old) ≡ Some fault) → ChecksKeyblock {E = E} bytes signer stored rollback old new (Ok (Err fault))
-keyblock_fault bytes signer stored rollback old new fault asked found = record {
-  asked = asked;
-  fault = found;
-  none = λ told. tt;
-  parts = tt;
-  fits = tt;
-  signed = tt;
-  copy = tt;
-  key = tt;
-}
+keyblock_fault bytes signer stored rollback old new fault asked found =
+    record { asked = asked; fault = found; none = λ told. tt; parts = tt; fits = tt; signed = tt; copy = tt; key = tt }
 
 pub keyblock_failed : {E : Type 0} (bytes : List ℕ) (signer : PackedKey) (stored : ℕ) (rollback : Bool) (old new : HookState) (e : E) → Asked old new true → ChecksKeyblock {E = E} bytes signer stored rollback old new (Err e)
-keyblock_failed bytes signer stored rollback old new e asked = record {
-  asked = asked;
-  fault = λ told. tt;
-  none = λ told. tt;
-  parts = tt;
-  fits = tt;
-  signed = tt;
-  copy = tt;
-  key = tt;
-}
+keyblock_failed bytes signer stored rollback old new e asked =
+    record { asked = asked; fault = λ told. tt; none = λ told. tt; parts = tt; fits = tt; signed = tt; copy = tt; key = tt }
 
 pub keyblock_good : {E : Type 0} (bytes : List ℕ) (signer : PackedKey) (stored : ℕ) (rollback : Bool) (old new : HookState) (keyblock : Keyblock) → Asked old new false
     → (IsTrue old.told → first_fault keyblock_table (keyblock_question bytes signer stored rollback old) ≡ None)

@@ -3,9 +3,11 @@ pub mod Rows
 pub mod Asking
 pub mod Said
 pub mod Lifted
+pub mod FourLines
 pub mod Keys
 pub mod Checking
 pub mod KeyblockAnswers
+pub mod SignatureAnswers
 pub mod PreambleAnswers
 pub mod BodyAnswers
 pub mod Slots

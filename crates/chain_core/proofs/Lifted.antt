@@ -1,5 +1,5 @@
 -- The first fault of tables that are lifted or stand one after the other.
-use Rattle.std.proofs.Common.{◌≡◌, ℕ, Bool, true, false, cond, not, Option, Some, None, [], ◌∷◌, ◌++◌, refl, ap, sym, ◌∙◌, ◌≤◌, arith}
+use Rattle.std.proofs.Common.{◌≡◌, ℕ, Bool, true, false, cond, not, Option, Some, None, [], ◌∷◌, ◌++◌, refl, ap, sym, ◌∙◌, ◌≤◌, ◌<◌, arith}
 use Rattle.std.specs.Prelude.{nat_lt, ◌==◌}
 use Rattle.wire_core.specs.FirstFault.{Table, first_fault}
 use Rattle.wire_core.proofs.FirstFault.{first_fault-append, first_fault-append_some}
@@ -52,6 +52,9 @@ append-none front back input e =
     (first, sym (first_fault-append front back input first) ∙ e)
 
 -- ---- tests of numbers
+
+pub over : (most n : ℕ) → most < n → nat_lt most n ≡ true
+over most n h = grind arith
 
 pub not_over : (most n : ℕ) → nat_lt most n ≡ false → n ≤ most
 not_over most n e = grind arith

@@ -29,6 +29,10 @@ asked_then a b c failed first second =
       rows = second.rows ∙ first.rows;
     }
 
+-- what a hook holds is told after the call too
+pub told_then : (old new : HookState) → Asked old new false → IsTrue old.told → IsTrue new.told
+told_then old new asked told = asked.told ∙ told
+
 -- The hook said so.
 pub record Said (key : Key) (message signature : List ℕ) (old new : HookState) (said : Bool) : Type 0 where
   pub asked : Asked old new false
@@ -41,5 +45,6 @@ said_of {E} key message signature message' signature' old new result said m s as
   says = λ told. IfOk-at_ok (λ (b : Bool). b ≡ is_enrolled old.rows key message' signature') is (asks.answer told) ∙ ap (λ (x : List ℕ). is_enrolled old.rows key x signature') m ∙ ap (is_enrolled old.rows key message) s;
 }
 
-pub failed_of : {E : Type 0} (key : Key) (message signature : List ℕ) (old new : HookState) (result : Result Bool E) (e : E) → AsksFor key message signature old new result → result ≡ Err e → Asked old new true
-failed_of {E} key message signature old new result e asks is = subst (λ (r : Result Bool E). Asked old new (is_err r)) is asks.asked
+-- a call that failed
+pub failed_of : {T E : Type 0} (old new : HookState) (result : Result T E) (e : E) → Asked old new (is_err result) → result ≡ Err e → Asked old new true
+failed_of {T} {E} old new result e asked is = subst (λ (r : Result T E). Asked old new (is_err r)) is asked

@@ -1,5 +1,5 @@
 -- What the checks of the parts say of a slot, and answers of its check.
-use Rattle.std.proofs.Common.{◌≡◌, ℕ, ◌≤◌, Bool, false, Option, Some, None, List, Result, Ok, Err, length, take, drop, refl, ap, sym, subst, ◌∙◌, arith}
+use Rattle.std.proofs.Common.{◌≡◌, ℕ, ◌≤◌, Bool, false, Option, Some, None, List, Result, Ok, Err, length, take, drop, refl, ap, sym, subst, ◌∙◌}
 use Rattle.std.specs.Prelude.{IsTrue}
 use Rattle.wire_core.specs.FirstFault.{first_fault}
 use Rattle.board_core.specs.Flash.{FlashState}
@@ -28,13 +28,17 @@ use Rattle.chain_core.proofs.Slots.{Found, Parts, chain_of, no_older, nowhere}
 
 -- ---- answers
 
-pub slot_faulted : (question : List ℕ → SlotQuestion) (head whole : List ℕ) (flash flash' : FlashState) (hook hook' : HookState) (out : List ℕ) (fault : SlotFault) → Looks flash flash' false → Asked hook hook' false
-    → (IsTrue flash.medium.told → head ≡ whole) → (IsTrue flash.medium.told → IsTrue hook.told → slot_fault (question head) ≡ Some fault)
-    → VerifiesSlot (question whole) flash flash' hook hook' out (Ok (Err fault))
-slot_faulted question head whole flash flash' hook hook' out fault looks asked filled found = record {
+-- the same, of a slot that begins with these bytes
+abbrev pub with_head : SlotQuestion → List ℕ → SlotQuestion
+with_head q head = record q { vblock = head }
+
+pub slot_faulted : (q : SlotQuestion) (head : List ℕ) (flash flash' : FlashState) (hook hook' : HookState) (out : List ℕ) (fault : SlotFault) → Looks flash flash' false → Asked hook hook' false
+    → (IsTrue flash.medium.told → head ≡ q.vblock) → (IsTrue flash.medium.told → IsTrue hook.told → slot_fault (with_head q head) ≡ Some fault)
+    → VerifiesSlot q flash flash' hook hook' out (Ok (Err fault))
+slot_faulted q head flash flash' hook hook' out fault looks asked filled found = record {
   looks = looks;
   asked = asked;
-  fault = λ told told'. subst (λ (h : List ℕ). slot_fault (question h) ≡ Some fault) (filled told) (found told told');
+  fault = λ told told'. subst (λ (h : List ℕ). slot_fault (with_head q h) ≡ Some fault) (filled told) (found told told');
   none = λ told told'. tt;
   ok = λ told. tt;
   chain = λ told told'. tt;
@@ -68,21 +72,21 @@ pub record Good (q : SlotQuestion) (flash : FlashState) (hook : HookState) (out 
 not_older : (q : SlotQuestion) (ok : SlotOk) → ok ≡ slot_ok q → Found q → IsTrue q.rollback → q.stored ≤ ok.version
 not_older q ok is found checked = subst (λ (o : SlotOk). q.stored ≤ o.version) (sym is) (no_older (asked_of_preamble q) found.preamble checked)
 
-pub slot_good : (question : List ℕ → SlotQuestion) (head whole : List ℕ) (flash flash' : FlashState) (hook hook' : HookState) (out : List ℕ) (ok : SlotOk) → Looks flash flash' false → Asked hook hook' false
-    → (IsTrue flash.medium.told → head ≡ whole) → Good (question head) flash hook out ok → VerifiesSlot (question whole) flash flash' hook hook' out (Ok (Ok ok))
-slot_good question head whole flash flash' hook hook' out ok looks asked filled good =
+pub slot_good : (q : SlotQuestion) (head : List ℕ) (flash flash' : FlashState) (hook hook' : HookState) (out : List ℕ) (ok : SlotOk) → Looks flash flash' false → Asked hook hook' false
+    → (IsTrue flash.medium.told → head ≡ q.vblock) → Good (with_head q head) flash hook out ok → VerifiesSlot q flash flash' hook hook' out (Ok (Ok ok))
+slot_good q head flash flash' hook hook' out ok looks asked filled good =
     record {
       looks = looks;
       asked = asked;
       fault = λ told told'. tt;
       none = λ told told'.
           let found = good.found told told' in
-          subst (λ (h : List ℕ). slot_fault (question h) ≡ None) (filled told) (nowhere (question head) found.keyblock found.preamble found.body);
-      ok = λ told. subst (λ (h : List ℕ). ok ≡ slot_ok (question h)) (filled told) good.is;
-      chain = λ told told'. subst (λ (h : List ℕ). FirmwareChain (question h)) (filled told) (chain_of (question head) good.parts (good.found told told'));
-      no_older = λ told told'. subst (λ (h : List ℕ). IsTrue (question h).rollback → (question h).stored ≤ ok.version) (filled told) (not_older (question head) ok good.is (good.found told told'));
+          subst (λ (h : List ℕ). slot_fault (with_head q h) ≡ None) (filled told) (nowhere (with_head q head) found.keyblock found.preamble found.body);
+      ok = λ told. subst (λ (h : List ℕ). ok ≡ slot_ok (with_head q h)) (filled told) good.is;
+      chain = λ told told'. subst (λ (h : List ℕ). FirmwareChain (with_head q h)) (filled told) (chain_of (with_head q head) good.parts (good.found told told'));
+      no_older = λ told told'. subst (λ (h : List ℕ). IsTrue (with_head q h).rollback → (with_head q h).stored ≤ ok.version) (filled told) (not_older (with_head q head) ok good.is (good.found told told'));
       many = good.many;
-      body = λ told. subst (λ (h : List ℕ). out ≡ slot_body (question h)) (filled told) (good.filled told);
+      body = λ told. subst (λ (h : List ℕ). out ≡ slot_body (with_head q h)) (filled told) (good.filled told);
     }
 
 -- ---- the keyblock
@@ -160,87 +164,96 @@ copied_whole key packed copied = λ i. record {
   bytes = copied.bytes i;
 }
 
-same_preamble : (a b : PreambleQuestion) → a.bytes ≡ b.bytes → a.rows ≡ b.rows → a.key ≡ b.key → a.stored ≡ b.stored → a.rollback ≡ b.rollback → a ≡ b
+pub same_preamble : (a b : PreambleQuestion) → a.bytes ≡ b.bytes → a.rows ≡ b.rows → a.key ≡ b.key → a.stored ≡ b.stored → a.rollback ≡ b.rollback → a ≡ b
 same_preamble a b bytes rows key stored rollback = λ i. record { bytes = bytes i; rows = rows i; key = key i; stored = stored i; rollback = rollback i }
 
--- What is known once the keyblock is good, of the bytes that were read.
-pub record Opened (q : SlotQuestion) (hook hook' : HookState) (keyblock : Keyblock) (packed : PackedKey) (rest : List ℕ) : Type 0 where
-  pub good : GoodKeyblock q.vblock q.root q.stored q.rollback hook hook' keyblock
-  pub rows : q.rows ≡ hook.rows
-  pub copied : Copied keyblock.data_key packed
-  pub behind : rest ≡ drop keyblock.size q.vblock
+-- A check of a slot whose keyblock is good: what is asked, the hook before it was asked for the keyblock and after, the
+-- keyblock, its data key as a copy, and the bytes behind it.
+pub record KeyblockStep : Type 0 where
+  pub q : SlotQuestion
+  pub hook : HookState
+  pub hook' : HookState
+  pub keyblock : Keyblock
+  pub packed : PackedKey
+  pub rest : List ℕ
 
-pub opened_fits : (q : SlotQuestion) (hook hook' : HookState) (keyblock : Keyblock) (packed : PackedKey) (rest : List ℕ) → Opened q hook hook' keyblock packed rest → packed.size ≤ 2056
-opened_fits q hook hook' keyblock packed rest opened =
-    let fits : length keyblock.data_key.bytes ≤ 2056 = known_fits _ _ opened.good.known in
-    omega (arith, opened.copied.size, fits)
+abbrev pub keyblock_step : (q : SlotQuestion) (hook hook' : HookState) (keyblock : Keyblock) (packed : PackedKey) (rest : List ℕ) → KeyblockStep
+keyblock_step q hook hook' keyblock packed rest = record { q = q; hook = hook; hook' = hook'; keyblock = keyblock; packed = packed; rest = rest }
 
-opened_key : (q : SlotQuestion) (hook hook' : HookState) (keyblock : Keyblock) (packed : PackedKey) (rest : List ℕ) → Opened q hook hook' keyblock packed rest → key_of packed ≡ (slot_keyblock q).data_key
-opened_key q hook hook' keyblock packed rest opened =
-    copied_key keyblock.data_key packed opened.copied (known_fits _ _ opened.good.known) ∙ ap (λ (k : Keyblock). k.data_key) opened.good.parts
+-- What is known then, of the bytes that were read.
+pub record Opened (s : KeyblockStep) : Type 0 where
+  pub good : GoodKeyblock s.q.vblock s.q.root s.q.stored s.q.rollback s.hook s.hook' s.keyblock
+  pub rows : s.q.rows ≡ s.hook.rows
+  pub copied : Copied s.keyblock.data_key s.packed
+  pub behind : s.rest ≡ drop s.keyblock.size s.q.vblock
 
-opened_rest : (q : SlotQuestion) (hook hook' : HookState) (keyblock : Keyblock) (packed : PackedKey) (rest : List ℕ) → Opened q hook hook' keyblock packed rest → rest ≡ drop (slot_keyblock q).size q.vblock
-opened_rest q hook hook' keyblock packed rest opened = opened.behind ∙ ap (λ (k : Keyblock). drop k.size q.vblock) opened.good.parts
+opened_key : (s : KeyblockStep) → Opened s → key_of s.packed ≡ (slot_keyblock s.q).data_key
+opened_key s opened = copied_key s.keyblock.data_key s.packed opened.copied (known_fits _ _ opened.good.known) ∙ ap (λ (k : Keyblock). k.data_key) opened.good.parts
 
-pub preamble_asked : (q : SlotQuestion) (hook hook' : HookState) (keyblock : Keyblock) (packed : PackedKey) (rest : List ℕ) → Opened q hook hook' keyblock packed rest
-    → preamble_question rest packed q.stored q.rollback hook' ≡ asked_of_preamble q
-preamble_asked q hook hook' keyblock packed rest opened =
-    same_preamble (preamble_question rest packed q.stored q.rollback hook') (asked_of_preamble q)
-    (opened_rest q hook hook' keyblock packed rest opened) (opened.good.asked.rows ∙ sym opened.rows) (opened_key q hook hook' keyblock packed rest opened) refl refl
+opened_rest : (s : KeyblockStep) → Opened s → s.rest ≡ drop (slot_keyblock s.q).size s.q.vblock
+opened_rest s opened = opened.behind ∙ ap (λ (k : Keyblock). drop k.size s.q.vblock) opened.good.parts
 
-same_body : (a b : BodyQuestion) → a.bytes ≡ b.bytes → a.most ≡ b.most → a.len ≡ b.len → a.key ≡ b.key → a.signature ≡ b.signature → a.signature_size ≡ b.signature_size → a.rows ≡ b.rows → a ≡ b
+-- keyblock and preamble show what the calls found
+pub no_keyblock_fault : (s : KeyblockStep) → Opened s → IsTrue s.hook.told → first_fault keyblock_table (asked_of_keyblock s.q) ≡ None
+no_keyblock_fault s opened told =
+    ap (λ (rows : List HookRow). let asked : KeyblockQuestion = record { bytes = s.q.vblock; rows = rows; signer = s.q.root; stored = s.q.stored; rollback = s.q.rollback } in first_fault keyblock_table asked) opened.rows
+    ∙ opened.good.none told
+
+preamble_asked : (s : KeyblockStep) → Opened s → preamble_question s.rest s.packed s.q.stored s.q.rollback s.hook' ≡ asked_of_preamble s.q
+preamble_asked s opened =
+    same_preamble (preamble_question s.rest s.packed s.q.stored s.q.rollback s.hook') (asked_of_preamble s.q)
+    (opened_rest s opened) (opened.good.asked.rows ∙ sym opened.rows) (opened_key s opened) refl refl
+
+pub preamble_found : (s : KeyblockStep) (found : Option FwPreambleFault) → Opened s
+    → first_fault preamble_table (preamble_question s.rest s.packed s.q.stored s.q.rollback s.hook') ≡ found → first_fault preamble_table (asked_of_preamble s.q) ≡ found
+preamble_found s found opened e = ap (first_fault preamble_table) (sym (preamble_asked s opened)) ∙ e
+
+-- The same check with a good preamble: the hook after it, the preamble, the area of the body, and the flash after the head
+-- was read.
+pub record PreambleStep : Type 0 where
+  pub before : KeyblockStep
+  pub hook : HookState
+  pub preamble : FwPreamble
+  pub main : Area
+  pub flash : FlashState
+
+-- What is known then.
+pub record Ready (s : PreambleStep) : Type 0 where
+  pub opened : Opened s.before
+  pub good : GoodPreamble s.before.rest s.before.packed s.before.q.stored s.before.q.rollback s.before.hook' s.hook s.preamble
+  pub area : s.before.q.main ≡ area_bytes s.main s.flash.medium
+
+pub ready_parts : (s : PreambleStep) → Ready s → s.preamble ≡ slot_preamble s.before.q
+ready_parts s ready = ready.good.parts ∙ ap firmware_preamble_in (opened_rest s.before ready.opened)
+
+pub same_body : (a b : BodyQuestion) → a.bytes ≡ b.bytes → a.most ≡ b.most → a.len ≡ b.len → a.key ≡ b.key → a.signature ≡ b.signature → a.signature_size ≡ b.signature_size → a.rows ≡ b.rows → a ≡ b
 same_body a b bytes most len key signature size rows = λ i. record { bytes = bytes i; most = most i; len = len i; key = key i; signature = signature i; signature_size = size i; rows = rows i }
 
--- What is known once the preamble is good too. `flash` is the flash after the head was read.
-pub record Ready (q : SlotQuestion) (hook hook' hook'' : HookState) (keyblock : Keyblock) (packed : PackedKey) (rest : List ℕ) (preamble : FwPreamble) (main : Area) (flash : FlashState) : Type 0 where
-  pub opened : Opened q hook hook' keyblock packed rest
-  pub good : GoodPreamble rest packed q.stored q.rollback hook' hook'' preamble
-  pub area : q.main ≡ area_bytes main flash.medium
-
-pub ready_parts : (q : SlotQuestion) (hook hook' hook'' : HookState) (keyblock : Keyblock) (packed : PackedKey) (rest : List ℕ) (preamble : FwPreamble) (main : Area) (flash : FlashState) → Ready q hook hook' hook'' keyblock packed rest preamble main flash
-    → preamble ≡ slot_preamble q
-ready_parts q hook hook' hook'' keyblock packed rest preamble main flash ready = ready.good.parts ∙ ap firmware_preamble_in (opened_rest q hook hook' keyblock packed rest ready.opened)
-
 -- what is asked of the body is asked of the slot
-pub body_asked : (q : SlotQuestion) (hook hook' hook'' : HookState) (keyblock : Keyblock) (packed : PackedKey) (rest : List ℕ) (preamble : FwPreamble) (main : Area) (flash : FlashState) (signature : List ℕ) (len : ℕ)
-    → Ready q hook hook' hook'' keyblock packed rest preamble main flash → length (area_bytes main flash.medium) ≡ main.size → signature ≡ preamble.body_signature → len ≡ preamble.body_len
-    → body_question packed signature main len flash hook'' ≡ asked_of_body q
-body_asked q hook hook' hook'' keyblock packed rest preamble main flash signature len ready long is_signature is_len =
-    let parts = ready_parts q hook hook' hook'' keyblock packed rest preamble main flash ready in
-    same_body (body_question packed signature main len flash hook'') (asked_of_body q)
+pub body_asked : (s : PreambleStep) (signature : List ℕ) (len : ℕ) → Ready s → length (area_bytes s.main s.flash.medium) ≡ s.main.size → signature ≡ s.preamble.body_signature → len ≡ s.preamble.body_len
+    → body_question s.before.packed signature s.main len s.flash s.hook ≡ asked_of_body s.before.q
+body_asked s signature len ready long is_signature is_len =
+    let parts = ready_parts s ready in
+    same_body (body_question s.before.packed signature s.main len s.flash s.hook) (asked_of_body s.before.q)
     (sym ready.area)
     (sym long ∙ ap (λ (xs : List ℕ). length xs) (sym ready.area))
     (is_len ∙ ap (λ (p : FwPreamble). p.body_len) parts)
-    (opened_key q hook hook' keyblock packed rest ready.opened)
+    (opened_key s.before ready.opened)
     (is_signature ∙ ap (λ (p : FwPreamble). p.body_signature) parts)
-    (ap (λ (xs : List ℕ). length xs) is_signature ∙ ready.good.fits.body_signature_length ∙ ap (λ (xs : List ℕ). (body_signature_of xs).size) (opened_rest q hook hook' keyblock packed rest ready.opened))
+    (ap (λ (xs : List ℕ). length xs) is_signature ∙ ready.good.fits.body_signature_length ∙ ap (λ (xs : List ℕ). (body_signature_of xs).size) (opened_rest s.before ready.opened))
     (ready.good.asked.rows ∙ ready.opened.good.asked.rows ∙ sym ready.opened.rows)
 
 -- the parts of a slot
-pub parts_of : (q : SlotQuestion) (hook hook' hook'' : HookState) (keyblock : Keyblock) (packed : PackedKey) (rest : List ℕ) (preamble : FwPreamble) (main : Area) (flash : FlashState)
-    → Ready q hook hook' hook'' keyblock packed rest preamble main flash → Parts q
-parts_of q hook hook' hook'' keyblock packed rest preamble main flash ready =
+pub parts_of : (s : PreambleStep) → Ready s → Parts s.before.q
+parts_of s ready =
     let opened = ready.opened in
     let keyblock_is = opened.good.parts in
-    let behind = opened_rest q hook hook' keyblock packed rest opened in
-    let preamble_is = ready_parts q hook hook' hook'' keyblock packed rest preamble main flash ready in
+    let preamble_is = ready_parts s ready in
     record {
       root = opened.good.copy;
-      keyblock_fits = subst (KeyblockFits seals.Signature q.vblock) keyblock_is opened.good.fits;
+      keyblock_fits = subst (KeyblockFits seals.Signature s.before.q.vblock) keyblock_is opened.good.fits;
       keyblock_signed = subst KeyblockIsSigned keyblock_is opened.good.signed;
       key = subst (λ (k : Keyblock). Known k.data_key.algorithm (length k.data_key.bytes)) keyblock_is opened.good.known;
-      preamble_fits = subst (FwPreambleFits (asked_of_preamble q).bytes) preamble_is (subst (λ (b : List ℕ). FwPreambleFits b preamble) behind ready.good.fits);
+      preamble_fits = subst (FwPreambleFits (asked_of_preamble s.before.q).bytes) preamble_is (subst (λ (b : List ℕ). FwPreambleFits b s.preamble) (opened_rest s.before opened) ready.good.fits);
       preamble_signed = subst FwPreambleIsSigned preamble_is ready.good.signed;
     }
-
--- keyblock and preamble show no fault
-pub no_keyblock_fault : (q : SlotQuestion) (hook hook' : HookState) (keyblock : Keyblock) (packed : PackedKey) (rest : List ℕ) → Opened q hook hook' keyblock packed rest → IsTrue hook.told
-    → first_fault keyblock_table (asked_of_keyblock q) ≡ None
-no_keyblock_fault q hook hook' keyblock packed rest opened told =
-    ap (λ (rows : List HookRow). let asked : KeyblockQuestion = record { bytes = q.vblock; rows = rows; signer = q.root; stored = q.stored; rollback = q.rollback } in first_fault keyblock_table asked) opened.rows
-    ∙ opened.good.none told
-
-pub preamble_found : (q : SlotQuestion) (hook hook' : HookState) (keyblock : Keyblock) (packed : PackedKey) (rest : List ℕ) (found : Option FwPreambleFault) → Opened q hook hook' keyblock packed rest
-    → first_fault preamble_table (preamble_question rest packed q.stored q.rollback hook') ≡ found → first_fault preamble_table (asked_of_preamble q) ≡ found
-preamble_found q hook hook' keyblock packed rest found opened e =
-    ap (first_fault preamble_table) (sym (preamble_asked q hook hook' keyblock packed rest opened)) ∙ e

@@ -14,7 +14,7 @@ use Rattle.preamble_core.specs.Firmware.{firmware_lines, FwPreambleFits, FwPream
 use Rattle.preamble_core.specs.declared.fault.FwPreambleFault.{FwPreambleFault}
 use Rattle.chain_core.specs.Hashing.{message_digest}
 use Rattle.chain_core.specs.Accepted.{Accepts, key_of, is_enrolled}
-use Rattle.chain_core.specs.Tables.{lifted, KeyblockQuestion, keyblock_of, keyblock_table, signer_lines, signer_question, seal_lines, data_key_lines, data_key_question, PreambleQuestion, preamble_of, further_preamble_lines, preamble_table, combined_version, BodyQuestion, body_table}
+use Rattle.chain_core.specs.Tables.{lifted, KeyblockQuestion, keyblock_of, keyblock_table, signer_lines, signer_question, seal_lines, data_key_lines, data_key_question, PreambleQuestion, preamble_of, SignatureQuestion, asked_of_signature, firmware_line, signature_lines, preamble_table, combined_version, BodyQuestion, body_table}
 use Rattle.chain_core.specs.Slot.{SlotQuestion, slot_keyblock, slot_preamble, asked_of_keyblock, asked_of_preamble, asked_of_body, slot_table, slot_fault, FirmwareChain}
 use Rattle.chain_core.specs.declared.fault.BodyFault.{BodyFault}
 use Rattle.chain_core.specs.declared.slot_fault.SlotFault.{SlotFault}
@@ -22,6 +22,7 @@ use Rattle.chain_core.specs.declared.slot_fault.SlotFault.TheVariants as slot_fa
 use Rattle.chain_core.proofs.Keys.{Known, signer_known}
 use Rattle.chain_core.proofs.Lifted.{lifted-none, lifted-some, lifted-back, append-none, is_equal, not_over}
 use Rattle.chain_core.proofs.Rows.{is_enrolled-Decides}
+use Rattle.chain_core.proofs.SignatureAnswers.{no_signature_fault}
 
 -- ---- the table of a slot
 
@@ -89,31 +90,33 @@ accepts_keyblock q e room fits =
       row = enrolled_row q.rows (key_of q.signer) (keyblock_of q).signed (keyblock_of q).seal_bytes seal.1.0;
     }
 
-further_preamble : (q : PreambleQuestion) → first_fault preamble_table q ≡ None → first_fault further_preamble_lines q ≡ None
+further_preamble : (q : PreambleQuestion) → first_fault preamble_table q ≡ None → first_fault signature_lines (asked_of_signature q) ≡ None
 unfolding preamble_table
-further_preamble q e =
-    let same : FwPreambleFault → FwPreambleFault = λ fault. fault in
-    let bytes : PreambleQuestion → List ℕ = λ q. q.bytes in
-    (append-none (lifted bytes same firmware_lines) further_preamble_lines q e).1
+further_preamble q e = no_signature_fault firmware_lines asked_of_signature firmware_line q e
 
-pub accepts_preamble : (q : PreambleQuestion) → first_fault preamble_table q ≡ None → Known q.key.algorithm (length q.key.bytes) → FwPreambleFits q.bytes (preamble_of q)
-    → Accepts q.rows q.key (preamble_of q).signature (preamble_of q).signed
-accepts_preamble q e known fits =
-    let further = first_fault-none further_preamble_lines q (further_preamble q e) in
+-- where the lines on a signature find no fault, it is accepted
+pub accepts_signature : (q : SignatureQuestion) → first_fault signature_lines q ≡ None → Known q.key.algorithm (length q.key.bytes) → length q.signature ≡ q.signature_size
+    → Accepts q.rows q.key q.signature q.signed
+accepts_signature q e known long =
+    let none = first_fault-none signature_lines q e in
     record {
       algorithm = known.algorithm_known;
       not_sha1 = known.not_sha1;
       key_size = known.size_is;
-      signature_size = fits.signature_length ∙ is_equal _ _ further.0;
-      row = enrolled_row q.rows q.key (preamble_of q).signed (preamble_of q).signature further.1.0;
+      signature_size = long ∙ is_equal _ _ none.0;
+      row = enrolled_row q.rows q.key q.signed q.signature none.1.0;
     }
+
+accepts_preamble : (q : PreambleQuestion) → first_fault preamble_table q ≡ None → Known q.key.algorithm (length q.key.bytes) → FwPreambleFits q.bytes (preamble_of q)
+    → Accepts q.rows q.key (preamble_of q).signature (preamble_of q).signed
+accepts_preamble q e known fits = accepts_signature (asked_of_signature q) (further_preamble q e) known fits.signature_length
 
 -- where versions are checked, that of the slot is not under the stored one
 pub no_older : (q : PreambleQuestion) → first_fault preamble_table q ≡ None → IsTrue q.rollback → q.stored ≤ combined_version q.key.version (preamble_of q).version
 no_older q e checked =
-    let further = first_fault-none further_preamble_lines q (further_preamble q e) in
+    let none = first_fault-none signature_lines (asked_of_signature q) (further_preamble q e) in
     let version = combined_version q.key.version (preamble_of q).version in
-    not_over version q.stored (subst (λ (b : Bool). (b && nat_lt version q.stored) ≡ false) checked further.1.1.1.0)
+    not_over version q.stored (subst (λ (b : Bool). (b && nat_lt version q.stored) ≡ false) checked none.1.1.1.0)
 
 body_signed : (q : BodyQuestion) → first_fault body_table q ≡ None → (not (q.signature_size == signature_length q.key.algorithm) ≡ false) × (not (is_enrolled q.rows q.key (take q.len q.bytes) q.signature) ≡ false)
 unfolding body_table

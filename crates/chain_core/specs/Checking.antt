@@ -1,5 +1,5 @@
 -- What the checks of a keyblock and of a preamble answer, and what they leave.
-use Rattle.std.specs.Prelude.{◌≡◌, ℕ, ◌≤◌, Bool, IsTrue, List, length, Some, None, Result, is_err, IfOk, IfErr, OnOk}
+use Rattle.std.specs.Prelude.{◌≡◌, ℕ, ◌≤◌, Bool, IsTrue, List, length, Option, Some, None, Result, is_err, IfOk, IfErr, OnOk}
 use Rattle.wire_core.specs.FirstFault.{first_fault}
 use Rattle.board_core.specs.Hook.{HookState}
 use Rattle.key_core.specs.Parts.{Key}
@@ -10,7 +10,8 @@ use Rattle.key_core.specs.declared.fault.KeyblockFault.{KeyblockFault}
 use Rattle.preamble_core.specs.Firmware.{FwPreamble, firmware_preamble_in, FwPreambleFits, FwPreambleIsSigned}
 use Rattle.preamble_core.specs.declared.fault.FwPreambleFault.{FwPreambleFault}
 use Rattle.chain_core.specs.Accepted.{Asked, key_of}
-use Rattle.chain_core.specs.Tables.{KeyblockQuestion, keyblock_table, PreambleQuestion, preamble_table, DataKeyQuestion, data_key_lines}
+use Rattle.chain_core.specs.declared.fault.SignatureFault.{SignatureFault}
+use Rattle.chain_core.specs.Tables.{KeyblockQuestion, keyblock_table, PreambleQuestion, preamble_table, SignatureQuestion, signature_lines, DataKeyQuestion, data_key_lines}
 
 -- what is asked of the keyblock that these bytes begin, of a hook
 abbrev pub keyblock_question : List ℕ → PackedKey → (stored : ℕ) → (rollback : Bool) → HookState → KeyblockQuestion
@@ -64,6 +65,30 @@ preamble_question bytes key stored rollback hook = record {
   stored = stored;
   rollback = rollback;
 }
+
+-- what is asked of a signature of these bytes, of a hook
+abbrev pub signature_question : (signed signature : List ℕ) → (version : ℕ) → PackedKey → (stored : ℕ) → (rollback : Bool) → HookState
+    → SignatureQuestion
+signature_question signed signature version key stored rollback hook = record {
+  signed = signed;
+  signature = signature;
+  signature_size = length signature;
+  version = version;
+  rows = hook.rows;
+  key = key_of key;
+  stored = stored;
+  rollback = rollback;
+}
+
+-- The call to check the signature of a preamble, and the version that it signs.
+pub record ChecksSignature {E : Type 0} (q : SignatureQuestion)
+    (old new : HookState) (result : Result (Option SignatureFault) E) : Type 0 where
+  -- a hook that failed counted it once, and it holds what it held
+  pub asked : Asked old new (is_err result)
+  -- the answer is the first fault of the lines
+  pub fault : IsTrue old.told → IfOk result (λ found. found ≡ first_fault signature_lines q)
+  -- where it is none, the version fits 16 bits, told or not
+  pub version : IfOk result (λ found. found ≡ None → q.version ≤ 65535)
 
 -- The call to check a firmware preamble.
 pub record ChecksPreamble {E : Type 0} (bytes : List ℕ) (key : PackedKey) (stored : ℕ) (rollback : Bool)

@@ -141,7 +141,8 @@ pub record VerifiesSlot (q : SlotQuestion) (flash flash' : FlashState) (hook hoo
   -- the three signatures are accepted
   pub chain : IsTrue flash.medium.told → IsTrue hook.told → IfOk result (λ answer. OnOk answer (FirmwareChain q))
   -- where versions are checked, it is no older than the stored one
-  pub no_older : IsTrue flash.medium.told → IsTrue hook.told → IfOk result (λ answer. IfOk answer (λ ok. IsTrue q.rollback → q.stored ≤ ok.version))
+  pub no_older : IsTrue flash.medium.told → IsTrue hook.told → IfOk result (λ answer. IfOk answer (λ ok.
+      IsTrue q.rollback → q.stored ≤ ok.version))
   -- the body that is handed out has that length
   pub many : IfOk result (λ answer. IfOk answer (λ ok. length handed_out ≡ ok.body_len))
   -- and is the one in the flash

@@ -19,6 +19,8 @@ use Rattle.preamble_core.specs.declared.fault.FwPreambleFault.TheVariants as pre
 use Rattle.chain_core.specs.Accepted.{key_of, is_enrolled}
 use Rattle.chain_core.specs.declared.fault.BodyFault.{BodyFault}
 use Rattle.chain_core.specs.declared.fault.BodyFault.TheVariants as body_faults
+use Rattle.chain_core.specs.declared.fault.SignatureFault.{SignatureFault}
+use Rattle.chain_core.specs.declared.fault.SignatureFault.TheVariants as signature_faults
 
 -- the lines of a table over a part of what is asked, each fault under its name in the whole
 abbrev pub lifted : {Whole Part Fault Named : Type 0} → (Whole → Part) → (Fault → Named) → Table Part Fault → Table Whole Named
@@ -93,7 +95,7 @@ keyblock_table =
     ++ (seal_lines
     ++ lifted data_key_question (λ fault. fault) data_key_lines))
 
--- ---- a firmware preamble
+-- ---- a preamble
 
 -- what is asked of a preamble: the bytes that it begins, the rows of the hook, the data key, the stored version of key and
 -- firmware, and whether versions are checked
@@ -104,22 +106,63 @@ pub record PreambleQuestion : Type 0 where
   pub stored : ℕ
   pub rollback : Bool
 
--- the parts of the preamble
-abbrev pub preamble_of : PreambleQuestion → FwPreamble
-preamble_of q = firmware_preamble_in q.bytes
+-- what is asked of its signature: the bytes that are signed, the signature with the size that its field says, the version
+-- that it signs, and the same as of the preamble
+pub record SignatureQuestion : Type 0 where
+  pub signed : List ℕ
+  pub signature : List ℕ
+  pub signature_size : ℕ
+  pub version : ℕ
+  pub rows : List HookRow
+  pub key : Key
+  pub stored : ℕ
+  pub rollback : Bool
+
+-- the same of a preamble with these parts
+abbrev pub parts_question : (signed signature : List ℕ) → (size version : ℕ) → PreambleQuestion → SignatureQuestion
+parts_question signed signature size version q = record {
+  signed = signed;
+  signature = signature;
+  signature_size = size;
+  version = version;
+  rows = q.rows;
+  key = q.key;
+  stored = q.stored;
+  rollback = q.rollback;
+}
 
 -- the version of a slot: the key's in the upper 16 bits, and the firmware's in the lower 16
 abbrev pub combined_version : (key firmware : ℕ) → ℕ
 combined_version key firmware = key * 65536 + firmware
 
+-- the last four lines: the signature, and the version
+abbrev pub signature_lines : Table SignatureQuestion SignatureFault
+signature_lines =
+    line signature_faults.SigSize (λ q. not (q.signature_size == signature_length q.key.algorithm))
+    ∷ line signature_faults.Refused (λ q. not (is_enrolled q.rows q.key q.signed q.signature))
+    ∷ line signature_faults.VersionRange (λ q. nat_lt 65535 q.version)
+    ∷ line signature_faults.Rollback (λ q. q.rollback && nat_lt (combined_version q.key.version q.version) q.stored)
+    ∷ []
+
+-- ---- a firmware preamble
+
+-- the parts of the preamble
+abbrev pub preamble_of : PreambleQuestion → FwPreamble
+preamble_of q = firmware_preamble_in q.bytes
+
+abbrev pub asked_of_signature : PreambleQuestion → SignatureQuestion
+asked_of_signature q = parts_question (preamble_of q).signed (preamble_of q).signature (signature_of q.bytes).size (preamble_of q).version q
+
+-- the name of a line on the signature in the table of a firmware preamble
+abbrev pub firmware_line : SignatureFault → FwPreambleFault
+firmware_line signature_faults.SigSize = preamble_faults.SigSize
+firmware_line signature_faults.Refused = preamble_faults.Refused
+firmware_line signature_faults.VersionRange = preamble_faults.VersionRange
+firmware_line signature_faults.Rollback = preamble_faults.Rollback
+
 -- lines 9 to 12
 abbrev pub further_preamble_lines : Table PreambleQuestion FwPreambleFault
-further_preamble_lines =
-    line preamble_faults.SigSize (λ q. not ((signature_of q.bytes).size == signature_length q.key.algorithm))
-    ∷ line preamble_faults.Refused (λ q. not (is_enrolled q.rows q.key (preamble_of q).signed (preamble_of q).signature))
-    ∷ line preamble_faults.VersionRange (λ q. nat_lt 65535 (preamble_of q).version)
-    ∷ line preamble_faults.Rollback (λ q. q.rollback && nat_lt (combined_version q.key.version (preamble_of q).version) q.stored)
-    ∷ []
+further_preamble_lines = lifted asked_of_signature firmware_line signature_lines
 
 -- the firmware preamble table: lines 1 to 8, which look at the bytes alone, and lines 9 to 12
 unfoldable pub preamble_table : Table PreambleQuestion FwPreambleFault

@@ -17,15 +17,10 @@ mod slot;
 mod slot_fault;
 
 pub use body::verify_flash_body;
-pub use fault::{BodyFault, Failure};
+pub use fault::{BodyFault, Failure, SignatureFault};
 pub use hasher::{Hasher, is_signed};
 pub use keyblock::{LARGEST_VERSION, data_key_fault, verify_keyblock};
-pub use preamble::{combined_version, verify_preamble};
+pub use preamble::{combined_version, signature_fault, verify_preamble};
 pub use room::{LARGEST_MAIN, LARGEST_VBLOCK, SlotRoom};
 pub use slot::verify_slot;
 pub use slot_fault::{SlotFault, SlotOk};
-
-#[cfg(test)]
-mod machine_tests;
-#[cfg(test)]
-mod tests;

@@ -1,8 +1,9 @@
-// The check of a firmware preamble by the data key of its keyblock.
+// The check of a firmware preamble by the data key of its keyblock, and what it shares with that of a kernel preamble.
 ghost use Rattle.std.specs.Prelude.{◌≤◌, ◌≡◌};
-ghost use Rattle.chain_core.specs.Checking.{ChecksPreamble};
-ghost use Rattle.chain_core.specs.Tables.{combined_version};
+ghost use Rattle.chain_core.specs.Checking.{signature_question, ChecksSignature, ChecksPreamble};
+ghost use Rattle.chain_core.specs.Tables.{combined_version, firmware_line};
 
+use crate::fault::SignatureFault;
 use crate::hasher::is_signed;
 use crate::keyblock::LARGEST_VERSION;
 use board_core::{Failed, Hook};
@@ -16,6 +17,52 @@ pub fn combined_version(key: u32, firmware: u32) -> u32
     ensures { result ≡ combined_version key firmware }
 {
     key * 0x1_0000 + firmware
+}
+
+/// What is wrong with the signature of a preamble, which is to be one of the data key `key`, or with the version that it
+/// signs. `stored` is the stored version word, and is looked at only where `rollback` says so. The hook keeps its rows.
+///
+/// A `SignatureFault` is the first line whose test holds. `Failed`: the hook failed, and its count of faults rose.
+pub fn signature_fault<H: Hook>(
+    hook: &mut H,
+    key: &PackedKey,
+    signed: &[u8],
+    signature: &[u8],
+    version: u32,
+    stored: u32,
+    rollback: bool,
+) -> Result<Option<SignatureFault>, Failed>
+    requires algorithm { key.now.algorithm ≤ LAST_ALGORITHM }
+    requires size { key.now.size ≤ LARGEST_KEY }
+    requires key_version { key.now.version ≤ LARGEST_VERSION }
+    ensures meets { ChecksSignature (signature_question signed.now signature.now version key.now stored rollback (H.state hook.old))
+        (H.state hook.old) (H.state hook.new) result }
+{
+    if signature.len() != signature_length(key.algorithm) as usize {
+        return Ok(Some(SignatureFault::SigSize));
+    }
+    if !is_signed(hook, key, signed, signature)? {
+        return Ok(Some(SignatureFault::Refused));
+    }
+    if version > LARGEST_VERSION {
+        return Ok(Some(SignatureFault::VersionRange));
+    }
+    if rollback && combined_version(key.version, version) < stored {
+        return Ok(Some(SignatureFault::Rollback));
+    }
+    Ok(None)
+}
+
+// The line of the firmware preamble table that this is.
+fn firmware_line(fault: SignatureFault) -> FwPreambleFault
+    ensures { result ≡ firmware_line fault }
+{
+    match fault {
+        SignatureFault::SigSize => FwPreambleFault::SigSize,
+        SignatureFault::Refused => FwPreambleFault::Refused,
+        SignatureFault::VersionRange => FwPreambleFault::VersionRange,
+        SignatureFault::Rollback => FwPreambleFault::Rollback,
+    }
 }
 
 /// The firmware preamble that the bytes begin with, of which the signature is to be one of the data key `key`. `stored` is
@@ -39,18 +86,17 @@ pub fn verify_preamble<'a, H: Hook>(
         Ok(preamble) => preamble,
         Err(fault) => return Ok(Err(fault)),
     };
-    if preamble.signature().len() != signature_length(key.algorithm) as usize {
-        return Ok(Err(FwPreambleFault::SigSize));
+    let found = signature_fault(
+        hook,
+        key,
+        preamble.signed(),
+        preamble.signature(),
+        preamble.version(),
+        stored,
+        rollback,
+    )?;
+    match found {
+        Some(fault) => Ok(Err(firmware_line(fault))),
+        None => Ok(Ok(preamble)),
     }
-    if !is_signed(hook, key, preamble.signed(), preamble.signature())? {
-        return Ok(Err(FwPreambleFault::Refused));
-    }
-    let version = preamble.version();
-    if version > LARGEST_VERSION {
-        return Ok(Err(FwPreambleFault::VersionRange));
-    }
-    if rollback && combined_version(key.version, version) < stored {
-        return Ok(Err(FwPreambleFault::Rollback));
-    }
-    Ok(Ok(preamble))
 }

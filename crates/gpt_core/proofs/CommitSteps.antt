@@ -1,12 +1,13 @@
 -- What each half of a commit leaves: the bytes outside the copies, the records, and the table.
-use Rattle.std.proofs.Common.{◌≡◌, ℕ, ◌+◌, ◌-◌, ◌*◌, ◌≤◌, ◌⊎◌, inl, inr, List, [], ◌∷◌, length, Option, Some, None, sym, ap, ◌∙◌, subst, arith}
+use Rattle.std.proofs.Common.{◌≡◌, ℕ, ◌+◌, ◌-◌, ◌*◌, ◌≤◌, ◌⊎◌, inl, inr, List, [], ◌∷◌, length, Option, Some, None, Result, Ok, IsTrue, refl, sym, ap, ◌∙◌, subst, arith}
 use Rattle.std.proofs.lemmas.List.Elements.{All-nil, All-cons, All-head, All-tail, All-weaker}
-use Rattle.std.specs.Prelude.{All}
+use Rattle.std.specs.Prelude.{All, OnOk}
 use Rattle.board_core.specs.declared.torn.Torn.{Torn}
 use Rattle.board_core.specs.Torn.{Logs, Grown, added}
 use Rattle.board_core.specs.Flash.{range, spliced}
-use Rattle.board_core.specs.Disk.{DiskMedium, LeftDiskTorn, Flushed, IsSectorOf, overlaid}
+use Rattle.board_core.specs.Disk.{DiskMedium, DiskState, LeftDiskTorn, Flushed, IsSectorOf, overlaid}
 use Rattle.board_core.specs.OrderedWrites.{with_range, records_of_both}
+use Rattle.board_core.proofs.Stops.{made_then}
 use Rattle.board_core.proofs.Overlays.{length-overlaid}
 use Rattle.board_core.proofs.TornRange.{grown_same, added_same}
 use Rattle.gpt_core.specs.declared.side.Side.{Side}
@@ -14,7 +15,8 @@ use Rattle.gpt_core.specs.declared.side.Side.TheVariants.{Primary, Backup}
 use Rattle.gpt_core.specs.Copies.{other_side, first_side, entries_lba, header_lba, copy_at, copy_of, Content, image_of, header_of, with_copy, committed}
 use Rattle.gpt_core.specs.Format.{PartitionTable, table_of_image}
 use Rattle.gpt_core.specs.Tables.{copy_table, table_in, table_on, BothHold, GivesTable, IsSource, IsFairCopy, IsFairDisk}
-use Rattle.gpt_core.specs.Commits.{InOrder, SameButCopies, IsOfCommit}
+use Rattle.gpt_core.specs.Commits.{InOrder, SameButCopies, IsOfCommit, WritesBoth}
+use Rattle.gpt_core.specs.Writes.{WritesCopy}
 use Rattle.board_core.proofs.OverlaidRanges.{IsApart, range-range, range-overlaid_apart, range-overlaid_agree}
 use Rattle.gpt_core.proofs.TornParts.{IsPartOf, TornIn, torn_in-both}
 use Rattle.gpt_core.proofs.CopyPlaces.{FitsContent, length-header, copy_inside, copies_apart, fits_copy, entries_stand, header_stands, both_ranges, length-with_copy, copy_put, range-with_copy, other_stays, committed_from, copy_committed}
@@ -132,6 +134,23 @@ left_none side second content old mid new other enough fits size is same is' sam
       kept = subst (Grown old.torn) (sym (same' ∙ same)) (grown_same old.torn);
       noted = subst (All (IsOfCommit old.sectors (committed old.sectors content old.bytes))) (sym (ap (added old.torn) (same' ∙ same) ∙ added_same old.torn)) (All-nil (IsOfCommit old.sectors (committed old.sectors content old.bytes)));
     }
+
+-- the first half is done, and this is what both did
+pub both_tried : {E E' : Type 0} (content : Content) (first second first' second' : ℕ) (one two one' two' : List ℕ) (old mid new : DiskState) (done : Unit) (result : Result Unit E')
+    → WritesCopy {E = E} first one second two old mid (Ok done) → WritesCopy first' one' second' two' mid new result → (IsTrue old.medium.told → CommitLeft content old.medium new.medium)
+    → (IsTrue old.medium.told → OnOk result (Flushed (record old.medium { bytes = committed old.medium.sectors content old.medium.bytes }) new.medium)) → WritesBoth content old new result
+both_tried content first second first' second' one two one' two' old mid new done result half rest left ok = record {
+  counters = made_then _ _ _ 3 3 _ half.counters rest.counters;
+  broke = λ failed. omega (arith, rest.broke failed, half.counters.none_failed refl);
+  sectors = rest.sectors ∙ half.sectors;
+  told = rest.told ∙ half.told;
+  sectors_read = rest.sectors_read ∙ half.sectors_read;
+  none_pending = rest.none_pending;
+  frame = λ told. (left told).frame;
+  ok = ok;
+  kept = λ told. (left told).kept;
+  noted = λ told. (left told).noted;
+}
 
 pub bytes_both : (side second : Side) (sectors : ℕ) (content : Content) (old mid new : List ℕ) → second ≡ other_side side → 69 ≤ sectors → FitsContent content → length old ≡ sectors * 512 → mid ≡ with_copy side sectors content old
     → new ≡ with_copy second sectors content mid → new ≡ committed sectors content old

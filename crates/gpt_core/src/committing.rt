@@ -40,12 +40,8 @@ pub(crate) fn write_both<D: Disk>(
 {
     let first = first_of(source);
     let second = other_of(first);
-    let Ok(()) = write_side(disk, first, entries, header_from(first, primary, backup)) else {
-        return Err(Failed);
-    };
-    let Ok(()) = write_side(disk, second, entries, header_from(second, primary, backup)) else {
-        return Err(Failed);
-    };
+    write_side(disk, first, entries, header_from(first, primary, backup))?;
+    write_side(disk, second, entries, header_from(second, primary, backup))?;
     Ok(())
 }
 
@@ -71,9 +67,7 @@ pub fn commit<D: Disk>(disk: &mut D, room: &mut GptRoom) -> Result<(), Failed>
     let primary = room.table.header(Side::Primary, room.sectors);
     let backup = room.table.header(Side::Backup, room.sectors);
     let entries = room.table.entries();
-    let Ok(()) = write_both(disk, room.source, entries, &primary, &backup) else {
-        return Err(Failed);
-    };
+    write_both(disk, room.source, entries, &primary, &backup)?;
     room.note_commit();
     Ok(())
 }

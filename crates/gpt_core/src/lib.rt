@@ -22,10 +22,6 @@ mod reading;
 mod room;
 mod side;
 mod table;
-#[cfg(test)]
-mod test_disks;
-#[cfg(test)]
-mod tests;
 mod writing;
 
 pub use committing::commit;

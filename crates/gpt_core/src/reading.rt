@@ -27,9 +27,7 @@ fn read_both<D: Disk>(disk: &mut D, images: &mut Images) -> Result<(), Failed>
     requires enough { 69 ≤ (D.state disk.old).medium.sectors }
     ensures { ReadsBoth images.new.primary.items images.new.backup.items (D.state disk.old) (D.state disk.new) result }
 {
-    let Ok(()) = read_copy(disk, Side::Primary, images.primary.as_mut_slice()) else {
-        return Err(Failed);
-    };
+    read_copy(disk, Side::Primary, images.primary.as_mut_slice())?;
     read_copy(disk, Side::Backup, images.backup.as_mut_slice())
 }
 

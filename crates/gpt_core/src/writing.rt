@@ -22,15 +22,9 @@ pub(crate) fn write_copy<D: Disk>(
     requires few { length one.now / 512 + length two.now / 512 ≤ 64 }
     ensures { WritesCopy first one.now second two.now (D.state disk.old) (D.state disk.new) result }
 {
-    let Ok(()) = disk.write(first, one) else {
-        return Err(Failed);
-    };
-    let Ok(()) = disk.write(second, two) else {
-        return Err(Failed);
-    };
-    let Ok(()) = disk.flush() else {
-        return Err(Failed);
-    };
+    disk.write(first, one)?;
+    disk.write(second, two)?;
+    disk.flush()?;
     Ok(())
 }
 

@@ -1,10 +1,10 @@
 -- What the checks of keyblock and preamble say of a head, and answers of its check.
-use Rattle.std.proofs.Common.{◌≡◌, ℕ, ◌+◌, ◌-◌, ◌≤◌, ◌<◌, Bool, true, false, cond, not, Option, Some, None, List, Result, Ok, Err, length, drop, refl, ap, sym, subst, ◌∙◌, arith}
+use Rattle.std.proofs.Common.{◌≡◌, ℕ, ◌+◌, ◌-◌, ◌≤◌, ◌<◌, Bool, true, false, cond, Option, Some, None, List, Result, Ok, Err, length, drop, refl, ap, sym, subst, ◌∙◌, arith}
 use Rattle.std.specs.Prelude.{IsTrue, ◌&&◌, slice_range}
 use Rattle.std.proofs.lemmas.List.{length-take, length-drop}
 use Rattle.wire_core.specs.FirstFault.{first_fault}
-use Rattle.wire_core.proofs.FirstFault.{first_fault-none}
 use Rattle.board_core.specs.Hook.{HookState}
+use Rattle.board_core.specs.declared.device.Failed.{Failed}
 use Rattle.key_core.specs.Parts.{Key}
 use Rattle.key_core.specs.Keyblocks.{Keyblock, keyblock_in, data_key_of, KeyblockFits, KeyblockIsSigned}
 use Rattle.key_core.specs.Keyblocks.{size_of as keyblock_size_of}
@@ -16,14 +16,14 @@ use Rattle.preamble_core.specs.declared.fault.KernelPreambleFault.{KernelPreambl
 use Rattle.chain_core.specs.Accepted.{Accepts, Asked, key_of}
 use Rattle.chain_core.specs.Tables.{lifted, keyblock_table, PreambleQuestion, combined_version}
 use Rattle.chain_core.specs.Checking.{preamble_question}
-use Rattle.chain_core.proofs.Keys.{key_most}
-use Rattle.chain_core.proofs.Lifted.{lifted-back, append-none, is_equal}
-use Rattle.chain_core.proofs.Rows.{is_enrolled-Decides}
-use Rattle.chain_core.proofs.Said.{asked_then}
-use Rattle.chain_core.proofs.SlotAnswers.{Copied, copied_key}
-use Rattle.chain_core.proofs.Slots.{accepts_keyblock}
+use Rattle.chain_core.proofs.Keys.{Known, key_most}
+use Rattle.chain_core.proofs.Lifted.{lifted-back, append-none}
+use Rattle.chain_core.proofs.Said.{asked_then, told_then}
+use Rattle.chain_core.proofs.SignatureAnswers.{no_signature_fault}
+use Rattle.chain_core.proofs.SlotAnswers.{Copied, copied_key, same_preamble}
+use Rattle.chain_core.proofs.Slots.{accepts_keyblock, accepts_signature}
 use Rattle.kernel_core.specs.Rules.{hash_is_enough, versions_are_checked}
-use Rattle.kernel_core.specs.KernelTables.{KernelKeyblockQuestion, signed_question, flag_lines, flag_question, signed_table, hashed_table, is_unsigned, kernel_keyblock_fault, preamble_of, further_kernel_lines, kernel_preamble_table}
+use Rattle.kernel_core.specs.KernelTables.{KernelKeyblockQuestion, signed_question, flag_lines, flag_question, signed_table, hashed_table, is_unsigned, kernel_keyblock_fault, preamble_of, asked_of_signature, kernel_line, kernel_preamble_table}
 use Rattle.kernel_core.specs.Heads.{head_key, behind_keyblock, head_preamble, IsUsableKey, IsHeadOf, HeadQuestion, asked_of_keyblock, asked_of_preamble, first_of, head_fault, head_ok, KeyblockAccepted}
 use Rattle.kernel_core.specs.HeadChecks.{KernelKeyblockRead, ReadBySignature, ChecksKernelKeyblock, kernel_keyblock_question, ChecksKernelPreamble, head_question, VerifiesHead}
 use Rattle.kernel_core.specs.declared.rules.KernelRules.{KernelRules}
@@ -44,20 +44,9 @@ head_failed q old new e asked = record { asked = asked; fault = λ told. tt; non
 pub keyblock_shown : (q : HeadQuestion) (fault : KeyblockFault) → kernel_keyblock_fault (asked_of_keyblock q) ≡ Some fault → head_fault q ≡ Some (head_faults.Keyblock fault)
 keyblock_shown q fault e = ap (λ (o : Option KeyblockFault). first_of o (first_fault kernel_preamble_table (asked_of_preamble q))) e
 
-pub record KeyblockFaulty (vblock : List ℕ) (key : PackedKey) (rules : KernelRules) (old new : HookState) (fault : KeyblockFault) : Type 0 where
-  pub asked : Asked old new false
-  pub found : IsTrue old.told → kernel_keyblock_fault (kernel_keyblock_question vblock key rules old) ≡ Some fault
-
-pub keyblock_faulty : {E : Type 0} (vblock : List ℕ) (key : PackedKey) (rules : KernelRules) (old new : HookState) (result : Result (Result Keyblock KeyblockFault) E) (answer : Result Keyblock KeyblockFault) (fault : KeyblockFault)
-    → ChecksKernelKeyblock vblock key rules old new result → result ≡ Ok answer → answer ≡ Err fault → KeyblockFaulty vblock key rules old new fault
-keyblock_faulty {E} vblock key rules old new result answer fault checks is is' =
-    let found : ChecksKernelKeyblock {E = E} vblock key rules old new (Ok (Err fault)) =
-    subst (λ (a : Result Keyblock KeyblockFault). ChecksKernelKeyblock {E = E} vblock key rules old new (Ok a)) is' (subst (λ (r : Result (Result Keyblock KeyblockFault) E). ChecksKernelKeyblock vblock key rules old new r) is checks) in
-    record { asked = found.asked; found = found.fault }
-
-pub keyblock_failed : {E : Type 0} (vblock : List ℕ) (key : PackedKey) (rules : KernelRules) (old new : HookState) (result : Result (Result Keyblock KeyblockFault) E) (e : E)
-    → ChecksKernelKeyblock vblock key rules old new result → result ≡ Err e → Asked old new true
-keyblock_failed vblock key rules old new result e checks is = (subst (ChecksKernelKeyblock vblock key rules old new) is checks).asked
+pub keyblock_answer : {E : Type 0} (vblock : List ℕ) (key : PackedKey) (rules : KernelRules) (old new : HookState) (result answer : Result (Result Keyblock KeyblockFault) E)
+    → ChecksKernelKeyblock vblock key rules old new result → result ≡ answer → ChecksKernelKeyblock vblock key rules old new answer
+keyblock_answer vblock key rules old new result answer checks is = subst (ChecksKernelKeyblock vblock key rules old new) is checks
 
 pub record GoodKeyblock (vblock : List ℕ) (key : PackedKey) (rules : KernelRules) (old new : HookState) (keyblock : Keyblock) : Type 0 where
   pub asked : Asked old new false
@@ -66,9 +55,8 @@ pub record GoodKeyblock (vblock : List ℕ) (key : PackedKey) (rules : KernelRul
 
 pub good_keyblock : {E : Type 0} (vblock : List ℕ) (key : PackedKey) (rules : KernelRules) (old new : HookState) (result : Result (Result Keyblock KeyblockFault) E) (answer : Result Keyblock KeyblockFault) (keyblock : Keyblock)
     → ChecksKernelKeyblock vblock key rules old new result → result ≡ Ok answer → answer ≡ Ok keyblock → GoodKeyblock vblock key rules old new keyblock
-good_keyblock {E} vblock key rules old new result answer keyblock checks is is' =
-    let found : ChecksKernelKeyblock {E = E} vblock key rules old new (Ok (Ok keyblock)) =
-    subst (λ (a : Result Keyblock KeyblockFault). ChecksKernelKeyblock {E = E} vblock key rules old new (Ok a)) is' (subst (λ (r : Result (Result Keyblock KeyblockFault) E). ChecksKernelKeyblock vblock key rules old new r) is checks) in
+good_keyblock vblock key rules old new result answer keyblock checks is is' =
+    let found = keyblock_answer vblock key rules old new result (Ok (Ok keyblock)) checks (is ∙ ap Ok is') in
     record { asked = found.asked; none = found.none; read = found.read }
 
 pub usable_fits : (key : Key) → IsUsableKey key → length key.bytes ≤ 2056
@@ -76,75 +64,61 @@ usable_fits key usable = let most = key_most key.algorithm in omega (arith, most
 
 -- ---- the preamble
 
--- What is known once the keyblock is good.
-pub record Opened (vblock : List ℕ) (key : PackedKey) (rules : KernelRules) (hook hook' : HookState) (keyblock : Keyblock) (packed : PackedKey) (rest : List ℕ) : Type 0 where
-  pub good : GoodKeyblock vblock key rules hook hook' keyblock
-  pub copied : Copied keyblock.data_key packed
-  pub behind : rest ≡ drop keyblock.size vblock
+-- A check of a head whose keyblock is good: its bytes, the key that is to have signed it, what it is held to, and whether
+-- versions are checked; the hook before it was asked for the keyblock and after; the keyblock, its data key as a copy, and
+-- the bytes behind it.
+pub record HeadStep : Type 0 where
+  pub vblock : List ℕ
+  pub key : PackedKey
+  pub rules : KernelRules
+  pub checked : Bool
+  pub hook : HookState
+  pub hook' : HookState
+  pub keyblock : Keyblock
+  pub packed : PackedKey
+  pub rest : List ℕ
 
-opened_key : (vblock : List ℕ) (key : PackedKey) (rules : KernelRules) (hook hook' : HookState) (keyblock : Keyblock) (packed : PackedKey) (rest : List ℕ) → Opened vblock key rules hook hook' keyblock packed rest → key_of packed ≡ head_key vblock
-opened_key vblock key rules hook hook' keyblock packed rest opened =
-    copied_key keyblock.data_key packed opened.copied (usable_fits keyblock.data_key opened.good.read.usable) ∙ opened.good.read.data_key
+-- What is known then.
+pub record Opened (s : HeadStep) : Type 0 where
+  pub good : GoodKeyblock s.vblock s.key s.rules s.hook s.hook' s.keyblock
+  pub checked : s.checked ≡ versions_are_checked s.rules
+  pub copied : Copied s.keyblock.data_key s.packed
+  pub behind : s.rest ≡ drop s.keyblock.size s.vblock
 
-opened_rest : (vblock : List ℕ) (key : PackedKey) (rules : KernelRules) (hook hook' : HookState) (keyblock : Keyblock) (packed : PackedKey) (rest : List ℕ) → Opened vblock key rules hook hook' keyblock packed rest → rest ≡ behind_keyblock vblock
-opened_rest vblock key rules hook hook' keyblock packed rest opened = opened.behind ∙ ap (λ (n : ℕ). drop n vblock) opened.good.read.size
+abbrev asked_head : HeadStep → HeadQuestion
+asked_head s = head_question s.vblock s.key s.rules s.hook
 
-same_preamble : (a b : PreambleQuestion) → a.bytes ≡ b.bytes → a.rows ≡ b.rows → a.key ≡ b.key → a.stored ≡ b.stored → a.rollback ≡ b.rollback → a ≡ b
-same_preamble a b bytes rows key stored rollback = λ i. record { bytes = bytes i; rows = rows i; key = key i; stored = stored i; rollback = rollback i }
+opened_key : (s : HeadStep) → Opened s → key_of s.packed ≡ head_key s.vblock
+opened_key s opened = copied_key s.keyblock.data_key s.packed opened.copied (usable_fits s.keyblock.data_key opened.good.read.usable) ∙ opened.good.read.data_key
+
+opened_rest : (s : HeadStep) → Opened s → s.rest ≡ behind_keyblock s.vblock
+opened_rest s opened = opened.behind ∙ ap (λ (n : ℕ). drop n s.vblock) opened.good.read.size
 
 -- what is asked of the preamble is asked of the head
-preamble_asked : (vblock : List ℕ) (key : PackedKey) (rules : KernelRules) (checked : Bool) (hook hook' : HookState) (keyblock : Keyblock) (packed : PackedKey) (rest : List ℕ) → checked ≡ versions_are_checked rules → Opened vblock key rules hook hook' keyblock packed rest
-    → preamble_question rest packed rules.stored checked hook' ≡ asked_of_preamble (head_question vblock key rules hook)
-preamble_asked vblock key rules checked hook hook' keyblock packed rest same opened =
-    same_preamble (preamble_question rest packed rules.stored checked hook') (asked_of_preamble (head_question vblock key rules hook))
-    (opened_rest vblock key rules hook hook' keyblock packed rest opened) opened.good.asked.rows (opened_key vblock key rules hook hook' keyblock packed rest opened) refl same
+preamble_asked : (s : HeadStep) → Opened s → preamble_question s.rest s.packed s.rules.stored s.checked s.hook' ≡ asked_of_preamble (asked_head s)
+preamble_asked s opened =
+    same_preamble (preamble_question s.rest s.packed s.rules.stored s.checked s.hook') (asked_of_preamble (asked_head s))
+    (opened_rest s opened) opened.good.asked.rows (opened_key s opened) refl opened.checked
 
-told_then : (old new : HookState) → Asked old new false → IsTrue old.told → IsTrue new.told
-told_then old new asked told = asked.told ∙ told
+pub preamble_answer : {E : Type 0} (rest : List ℕ) (packed : PackedKey) (stored : ℕ) (checked : Bool) (old new : HookState) (result answer : Result (Result KernelPreamble KernelPreambleFault) E)
+    → ChecksKernelPreamble rest packed stored checked old new result → result ≡ answer → ChecksKernelPreamble rest packed stored checked old new answer
+preamble_answer rest packed stored checked old new result answer checks is = subst (ChecksKernelPreamble rest packed stored checked old new) is checks
 
-pub preamble_shown : {E : Type 0} (vblock : List ℕ) (key : PackedKey) (rules : KernelRules) (checked : Bool) (hook hook' hook'' : HookState) (keyblock : Keyblock) (packed : PackedKey) (rest : List ℕ)
-    (result : Result (Result KernelPreamble KernelPreambleFault) E) (answer : Result KernelPreamble KernelPreambleFault) (fault : KernelPreambleFault)
-    → checked ≡ versions_are_checked rules → Opened vblock key rules hook hook' keyblock packed rest → ChecksKernelPreamble rest packed rules.stored checked hook' hook'' result → result ≡ Ok answer → answer ≡ Err fault
-    → VerifiesHead {E = E} (head_question vblock key rules hook) hook hook'' (Ok (Err (head_faults.Preamble fault)))
-preamble_shown {E} vblock key rules checked hook hook' hook'' keyblock packed rest result answer fault same opened checks is is' =
-    let found : ChecksKernelPreamble {E = E} rest packed rules.stored checked hook' hook'' (Ok (Err fault)) =
-    subst (λ (a : Result KernelPreamble KernelPreambleFault). ChecksKernelPreamble {E = E} rest packed rules.stored checked hook' hook'' (Ok a)) is' (subst (λ (r : Result (Result KernelPreamble KernelPreambleFault) E). ChecksKernelPreamble rest packed rules.stored checked hook' hook'' r) is checks) in
-    let q = head_question vblock key rules hook in
-    head_faulted q hook hook'' (head_faults.Preamble fault) (asked_then hook hook' hook'' false opened.good.asked found.asked) (λ told.
-    ap (λ (o : Option KeyblockFault). first_of o (first_fault kernel_preamble_table (asked_of_preamble q))) (opened.good.none told)
-    ∙ ap (λ (p : PreambleQuestion). first_of None (first_fault kernel_preamble_table p)) (sym (preamble_asked vblock key rules checked hook hook' keyblock packed rest same opened))
-    ∙ ap (first_of None) (found.fault (told_then hook hook' opened.good.asked told)))
-
-pub preamble_failed : {E : Type 0} (vblock : List ℕ) (key : PackedKey) (rules : KernelRules) (checked : Bool) (hook hook' hook'' : HookState) (keyblock : Keyblock) (packed : PackedKey) (rest : List ℕ)
-    (result : Result (Result KernelPreamble KernelPreambleFault) E) (e : E)
-    → Opened vblock key rules hook hook' keyblock packed rest → ChecksKernelPreamble rest packed rules.stored checked hook' hook'' result → result ≡ Err e
-    → VerifiesHead {E = E} (head_question vblock key rules hook) hook hook'' (Err e)
-preamble_failed vblock key rules checked hook hook' hook'' keyblock packed rest result e opened checks is =
-    head_failed (head_question vblock key rules hook) hook hook'' e (asked_then hook hook' hook'' true opened.good.asked (subst (ChecksKernelPreamble rest packed rules.stored checked hook' hook'') is checks).asked)
+pub preamble_shown : {E : Type 0} (s : HeadStep) (new : HookState) (fault : KernelPreambleFault) → Opened s → ChecksKernelPreamble {E = E} s.rest s.packed s.rules.stored s.checked s.hook' new (Ok (Err fault))
+    → VerifiesHead {E = E} (asked_head s) s.hook new (Ok (Err (head_faults.Preamble fault)))
+preamble_shown s new fault opened found =
+    head_faulted (asked_head s) s.hook new (head_faults.Preamble fault) (asked_then s.hook s.hook' new false opened.good.asked found.asked) (λ told.
+    ap (λ (o : Option KeyblockFault). first_of o (first_fault kernel_preamble_table (asked_of_preamble (asked_head s)))) (opened.good.none told)
+    ∙ ap (λ (p : PreambleQuestion). first_of None (first_fault kernel_preamble_table p)) (sym (preamble_asked s opened))
+    ∙ ap (first_of None) (found.fault (told_then s.hook s.hook' opened.good.asked told)))
 
 -- ---- a good head
 
-is_yes : (b : Bool) → not b ≡ false → b ≡ true
-is_yes true e = refl
-is_yes false e = absurd cc
-
-further_preamble : (q : PreambleQuestion) → first_fault kernel_preamble_table q ≡ None → first_fault further_kernel_lines q ≡ None
-unfolding kernel_preamble_table
-further_preamble q e =
-    let same : KernelPreambleFault → KernelPreambleFault = λ fault. fault in
-    let bytes : PreambleQuestion → List ℕ = λ q. q.bytes in
-    (append-none (lifted bytes same kernel_lines) further_kernel_lines q e).1
-
 accepts_preamble : (q : PreambleQuestion) → first_fault kernel_preamble_table q ≡ None → IsUsableKey q.key → KernelPreambleFits q.bytes (preamble_of q) → Accepts q.rows q.key (preamble_of q).signature (preamble_of q).signed
+unfolding kernel_preamble_table
 accepts_preamble q e usable fits =
-    let further = first_fault-none further_kernel_lines q (further_preamble q e) in
-    record {
-      algorithm = usable.algorithm;
-      not_sha1 = usable.not_sha1;
-      key_size = usable.size;
-      signature_size = fits.signature_length ∙ is_equal _ _ further.0;
-      row = (is_enrolled-Decides q.rows q.key (preamble_of q).signed (preamble_of q).signature).0 (is_yes _ further.1.0);
-    }
+    let known : Known q.key.algorithm (length q.key.bytes) = record { algorithm_known = usable.algorithm; not_sha1 = usable.not_sha1; size_is = usable.size } in
+    accepts_signature (asked_of_signature q) (no_signature_fault kernel_lines asked_of_signature kernel_line q e) known fits.signature_length
 
 -- where a hash is not enough, no fault of the keyblock is none of the first lines
 unsigned_none : (q : KernelKeyblockQuestion) → hash_is_enough q.rules ≡ false → kernel_keyblock_fault q ≡ None → first_fault keyblock_table (signed_question q) ≡ None
@@ -171,86 +145,67 @@ inside_of bytes from n long some =
     let dropped = length-drop from bytes in
     omega (arith, long, some, counts, taken, dropped)
 
--- What is known once the preamble is good too.
-pub record GoodPreamble (rest : List ℕ) (packed : PackedKey) (stored : ℕ) (rollback : Bool) (old new : HookState) (preamble : KernelPreamble) : Type 0 where
-  pub asked : Asked old new false
-  pub none : IsTrue old.told → first_fault kernel_preamble_table (preamble_question rest packed stored rollback old) ≡ None
-  pub readable : first_fault kernel_lines rest ≡ None
-  pub parts : preamble ≡ kernel_preamble_in rest
-  pub fits : KernelPreambleFits rest preamble
-  pub signed : KernelPreambleIsSigned preamble
-  pub version : preamble.version ≤ 65535
-
-pub good_preamble : {E : Type 0} (rest : List ℕ) (packed : PackedKey) (stored : ℕ) (rollback : Bool) (old new : HookState) (result : Result (Result KernelPreamble KernelPreambleFault) E) (answer : Result KernelPreamble KernelPreambleFault) (preamble : KernelPreamble)
-    → ChecksKernelPreamble rest packed stored rollback old new result → result ≡ Ok answer → answer ≡ Ok preamble → GoodPreamble rest packed stored rollback old new preamble
-good_preamble {E} rest packed stored rollback old new result answer preamble checks is is' =
-    let found : ChecksKernelPreamble {E = E} rest packed stored rollback old new (Ok (Ok preamble)) =
-    subst (λ (a : Result KernelPreamble KernelPreambleFault). ChecksKernelPreamble {E = E} rest packed stored rollback old new (Ok a)) is' (subst (λ (r : Result (Result KernelPreamble KernelPreambleFault) E). ChecksKernelPreamble rest packed stored rollback old new r) is checks) in
-    record { asked = found.asked; none = found.none; readable = found.readable; parts = found.parts; fits = found.fits; signed = found.signed; version = found.version }
+-- What is known of a preamble without a fault, and what is answered is made of.
+pub record MadeOf (s : HeadStep) (new : HookState) (preamble : KernelPreamble) (ok : HeadOk) : Type 0 where
+  pub preamble_good : ChecksKernelPreamble {E = Failed} s.rest s.packed s.rules.stored s.checked s.hook' new (Ok (Ok preamble))
+  pub version : ok.version ≡ combined_version s.packed.version preamble.version
+  pub load_address : ok.load_address ≡ preamble.load_address
+  pub body_at : ok.body_at ≡ s.keyblock.size + preamble.size
+  pub body_len : ok.body_len ≡ preamble.body_len
 
 ok_is : (a b : HeadOk) → a.version ≡ b.version → a.load_address ≡ b.load_address → a.body_at ≡ b.body_at → a.body_len ≡ b.body_len → a ≡ b
 ok_is a b version load at len = λ i. record { version = version i; load_address = load i; body_at = at i; body_len = len i }
 
--- what the answer is made of
-pub record MadeOf (packed : PackedKey) (keyblock : Keyblock) (preamble : KernelPreamble) (ok : HeadOk) : Type 0 where
-  pub version : ok.version ≡ combined_version packed.version preamble.version
-  pub load_address : ok.load_address ≡ preamble.load_address
-  pub body_at : ok.body_at ≡ keyblock.size + preamble.size
-  pub body_len : ok.body_len ≡ preamble.body_len
+preamble_is : (s : HeadStep) (new : HookState) (preamble : KernelPreamble) (ok : HeadOk) → Opened s → MadeOf s new preamble ok → preamble ≡ head_preamble s.vblock
+preamble_is s new preamble ok opened made = made.preamble_good.parts ∙ ap kernel_preamble_in (opened_rest s opened)
 
-preamble_is : (vblock : List ℕ) (key : PackedKey) (rules : KernelRules) (checked : Bool) (hook hook' hook'' : HookState) (keyblock : Keyblock) (packed : PackedKey) (rest : List ℕ) (preamble : KernelPreamble)
-    → Opened vblock key rules hook hook' keyblock packed rest → GoodPreamble rest packed rules.stored checked hook' hook'' preamble → preamble ≡ head_preamble vblock
-preamble_is vblock key rules checked hook hook' hook'' keyblock packed rest preamble opened good = good.parts ∙ ap kernel_preamble_in (opened_rest vblock key rules hook hook' keyblock packed rest opened)
-
-head_is : (vblock : List ℕ) (key : PackedKey) (rules : KernelRules) (checked : Bool) (hook hook' hook'' : HookState) (keyblock : Keyblock) (packed : PackedKey) (rest : List ℕ) (preamble : KernelPreamble) (ok : HeadOk)
-    → Opened vblock key rules hook hook' keyblock packed rest → GoodPreamble rest packed rules.stored checked hook' hook'' preamble → MadeOf packed keyblock preamble ok → ok ≡ head_ok (head_question vblock key rules hook)
-head_is vblock key rules checked hook hook' hook'' keyblock packed rest preamble ok opened good made =
-    let is = preamble_is vblock key rules checked hook hook' hook'' keyblock packed rest preamble opened good in
-    ok_is ok (head_ok (head_question vblock key rules hook))
-    (made.version ∙ ap (λ (n : ℕ). combined_version n preamble.version) (opened.copied.version ∙ ap (λ (k : Key). k.version) opened.good.read.data_key) ∙ ap (λ (p : KernelPreamble). combined_version (head_key vblock).version p.version) is)
+head_is : (s : HeadStep) (new : HookState) (preamble : KernelPreamble) (ok : HeadOk) → Opened s → MadeOf s new preamble ok → ok ≡ head_ok (asked_head s)
+head_is s new preamble ok opened made =
+    let is = preamble_is s new preamble ok opened made in
+    ok_is ok (head_ok (asked_head s))
+    (made.version ∙ ap (λ (n : ℕ). combined_version n preamble.version) (opened.copied.version ∙ ap (λ (k : Key). k.version) opened.good.read.data_key) ∙ ap (λ (p : KernelPreamble). combined_version (head_key s.vblock).version p.version) is)
     (made.load_address ∙ ap (λ (p : KernelPreamble). p.load_address) is)
-    (made.body_at ∙ ap (λ (n : ℕ). n + preamble.size) opened.good.read.size ∙ ap (λ (p : KernelPreamble). keyblock_size_of vblock + p.size) is)
+    (made.body_at ∙ ap (λ (n : ℕ). n + preamble.size) opened.good.read.size ∙ ap (λ (p : KernelPreamble). keyblock_size_of s.vblock + p.size) is)
     (made.body_len ∙ ap (λ (p : KernelPreamble). p.body_len) is)
 
-head_of : (vblock : List ℕ) (key : PackedKey) (rules : KernelRules) (checked : Bool) (hook hook' hook'' : HookState) (keyblock : Keyblock) (packed : PackedKey) (rest : List ℕ) (preamble : KernelPreamble) (ok : HeadOk)
-    → Opened vblock key rules hook hook' keyblock packed rest → GoodPreamble rest packed rules.stored checked hook' hook'' preamble → MadeOf packed keyblock preamble ok → IsHeadOf vblock ok
-head_of vblock key rules checked hook hook' hook'' keyblock packed rest preamble ok opened good made =
+head_of : (s : HeadStep) (new : HookState) (preamble : KernelPreamble) (ok : HeadOk) → Opened s → MadeOf s new preamble ok → IsHeadOf s.vblock ok
+head_of s new preamble ok opened made =
     let read = opened.good.read in
-    let is : ok ≡ head_ok (head_question vblock key rules hook) = head_is vblock key rules checked hook hook' hook'' keyblock packed rest preamble ok opened good made in
-    let usable : IsUsableKey (head_key vblock) = subst IsUsableKey read.data_key read.usable in
-    let key_size : length (head_key vblock).bytes ≡ (data_key_of vblock).size = ap (λ (k : Key). length k.bytes) (sym read.data_key) ∙ read.key_size in
-    let rest_long : length rest ≡ length vblock - keyblock.size = ap (λ (xs : List ℕ). length xs) opened.behind ∙ length-drop keyblock.size vblock in
+    let is : ok ≡ head_ok (asked_head s) = head_is s new preamble ok opened made in
+    let usable : IsUsableKey (head_key s.vblock) = subst IsUsableKey read.data_key read.usable in
+    let key_size : length (head_key s.vblock).bytes ≡ (data_key_of s.vblock).size = ap (λ (k : Key). length k.bytes) (sym read.data_key) ∙ read.key_size in
+    let rest_long : length s.rest ≡ length s.vblock - s.keyblock.size = ap (λ (xs : List ℕ). length xs) opened.behind ∙ length-drop s.keyblock.size s.vblock in
+    let preamble_whole : preamble.size ≤ length s.rest = made.preamble_good.fits.whole in
     record {
-      key_inside = inside_of vblock ((data_key_of vblock).at + (data_key_of vblock).offset) (data_key_of vblock).size key_size (omega (arith, key_size, usable.size));
+      key_inside = inside_of s.vblock ((data_key_of s.vblock).at + (data_key_of s.vblock).offset) (data_key_of s.vblock).size key_size (omega (arith, key_size, usable.size));
       key = usable;
-      preamble = subst (λ (xs : List ℕ). first_fault kernel_lines xs ≡ None) (opened_rest vblock key rules hook hook' keyblock packed rest opened) good.readable;
+      preamble = subst (λ (xs : List ℕ). first_fault kernel_lines xs ≡ None) (opened_rest s opened) made.preamble_good.readable;
       load_address = ap (λ (o : HeadOk). o.load_address) is;
       body_at = ap (λ (o : HeadOk). o.body_at) is;
-      inside = omega (arith, made.body_at, rest_long, good.fits.whole, read.whole);
+      inside = omega (arith, made.body_at, rest_long, preamble_whole, read.whole);
       body_len = ap (λ (o : HeadOk). o.body_len) is;
     }
 
-pub head_good : {E : Type 0} (vblock : List ℕ) (key : PackedKey) (rules : KernelRules) (checked : Bool) (hook hook' hook'' : HookState) (keyblock : Keyblock) (packed : PackedKey) (rest : List ℕ) (preamble : KernelPreamble) (ok : HeadOk)
-    → checked ≡ versions_are_checked rules → Opened vblock key rules hook hook' keyblock packed rest → GoodPreamble rest packed rules.stored checked hook' hook'' preamble → MadeOf packed keyblock preamble ok
-    → VerifiesHead {E = E} (head_question vblock key rules hook) hook hook'' (Ok (Ok ok))
-head_good vblock key rules checked hook hook' hook'' keyblock packed rest preamble ok same opened good made =
-    let q = head_question vblock key rules hook in
+pub head_good : {E : Type 0} (s : HeadStep) (new : HookState) (preamble : KernelPreamble) (ok : HeadOk) → Opened s → MadeOf s new preamble ok
+    → VerifiesHead {E = E} (asked_head s) s.hook new (Ok (Ok ok))
+head_good s new preamble ok opened made =
+    let q = asked_head s in
     let read = opened.good.read in
-    let is = preamble_is vblock key rules checked hook hook' hook'' keyblock packed rest preamble opened good in
-    let behind = opened_rest vblock key rules hook hook' keyblock packed rest opened in
-    let usable : IsUsableKey (head_key vblock) = subst IsUsableKey read.data_key read.usable in
-    let none : IsTrue hook.told → first_fault kernel_preamble_table (asked_of_preamble q) ≡ None = λ told.
-    ap (first_fault kernel_preamble_table) (sym (preamble_asked vblock key rules checked hook hook' keyblock packed rest same opened)) ∙ good.none (told_then hook hook' opened.good.asked told) in
+    let found = made.preamble_good in
+    let is = preamble_is s new preamble ok opened made in
+    let usable : IsUsableKey (head_key s.vblock) = subst IsUsableKey read.data_key read.usable in
+    let none : IsTrue s.hook.told → first_fault kernel_preamble_table (asked_of_preamble q) ≡ None = λ told.
+    ap (first_fault kernel_preamble_table) (sym (preamble_asked s opened)) ∙ found.none (told_then s.hook s.hook' opened.good.asked told) in
     record {
-      asked = asked_then hook hook' hook'' false opened.good.asked good.asked;
+      asked = asked_then s.hook s.hook' new false opened.good.asked found.asked;
       fault = λ told. tt;
       none = λ told.
           ap (λ (o : Option KeyblockFault). first_of o (first_fault kernel_preamble_table (asked_of_preamble q))) (opened.good.none told) ∙ ap (first_of None) (none told);
-      ok = head_is vblock key rules checked hook hook' hook'' keyblock packed rest preamble ok opened good made;
-      head = head_of vblock key rules checked hook hook' hook'' keyblock packed rest preamble ok opened good made;
+      ok = head_is s new preamble ok opened made;
+      head = head_of s new preamble ok opened made;
       chain = λ told. record {
-        keyblock = λ needed. keyblock_accepted q keyblock read (opened.good.none told) needed;
-        preamble = accepts_preamble (asked_of_preamble q) (none told) usable (subst (KernelPreambleFits (behind_keyblock vblock)) is (subst (λ (b : List ℕ). KernelPreambleFits b preamble) behind good.fits));
-        preamble_signed = subst KernelPreambleIsSigned is good.signed;
+        keyblock = λ needed. keyblock_accepted q s.keyblock read (opened.good.none told) needed;
+        preamble = accepts_preamble (asked_of_preamble q) (none told) usable (subst (KernelPreambleFits (behind_keyblock s.vblock)) is (subst (λ (b : List ℕ). KernelPreambleFits b preamble) (opened_rest s opened) found.fits));
+        preamble_signed = subst KernelPreambleIsSigned is found.signed;
       };
     }

@@ -11,9 +11,12 @@ use Rattle.preamble_core.specs.Kernel.{body_signature_of}
 use Rattle.rom_core.proofs.Ranges.{range-range}
 use Rattle.chain_core.specs.Accepted.{Asked, key_of, is_enrolled}
 use Rattle.chain_core.specs.Bodies.{is_store, is_hook}
-use Rattle.chain_core.specs.Tables.{BodyQuestion, body_table}
+use Rattle.chain_core.specs.Tables.{body_table}
 use Rattle.chain_core.specs.declared.fault.BodyFault.{BodyFault}
 use Rattle.chain_core.specs.declared.fault.Failure.{Failure}
+use Rattle.chain_core.proofs.Said.{asked_none}
+use Rattle.chain_core.proofs.SlotAnswers.{same_body}
+use Rattle.kernel_core.proofs.DiskLooks.{looks_none}
 use Rattle.chain_core.proofs.Slots.{accepts_body}
 use Rattle.kernel_core.specs.Heads.{head_key, behind_keyblock, head_preamble, IsHeadOf}
 use Rattle.kernel_core.specs.KernelBodies.{LooksAtDisk, later_sectors, read_sectors, most_of, disk_body_question, ChecksDiskBody, kernel_body_question, VerifiesKernelBody}
@@ -54,6 +57,12 @@ disk_body_fault key signature first sectors at len disk disk' hook hook' body fa
   filled = λ told. tt;
 }
 
+-- a fault that is found before anything is read
+pub disk_body_unread : (key : PackedKey) (signature : List ℕ) (first sectors at len : ℕ) (disk : DiskState) (hook : HookState) (body : List ℕ) (fault : BodyFault)
+    → first_fault body_table (disk_body_question key signature first sectors at len disk hook) ≡ Some fault → ChecksDiskBody key signature first sectors at len disk disk hook hook body (Ok (Some fault))
+disk_body_unread key signature first sectors at len disk hook body fault found =
+    disk_body_fault key signature first sectors at len disk disk hook hook body fault (looks_none _ disk) (asked_none hook) (λ told told'. found)
+
 pub disk_body_failed : (key : PackedKey) (signature : List ℕ) (first sectors at len : ℕ) (disk disk' : DiskState) (hook hook' : HookState) (body : List ℕ) (failure : Failure)
     → LooksAtDisk (read_sectors sectors at len) disk disk' (is_store failure) → Asked hook hook' (is_hook failure)
     → ChecksDiskBody key signature first sectors at len disk disk' hook hook' body (Err failure)
@@ -90,9 +99,6 @@ says_body hook key signature body bytes first sectors at len said many front fit
     says ∙ ap (λ (m : List ℕ). is_enrolled hook.rows (key_of key) m signature) (filled ∙ in_partition bytes first sectors at len (fits_in sectors at len many front fits))
 
 -- ---- the body of a head
-
-same_body : (a b : BodyQuestion) → a.bytes ≡ b.bytes → a.most ≡ b.most → a.len ≡ b.len → a.key ≡ b.key → a.signature ≡ b.signature → a.signature_size ≡ b.signature_size → a.rows ≡ b.rows → a ≡ b
-same_body a b bytes most len key signature size rows = λ i. record { bytes = bytes i; most = most i; len = len i; key = key i; signature = signature i; signature_size = size i; rows = rows i }
 
 -- What the parts were taken from.
 pub record TakenFrom (vblock : List ℕ) (packed : PackedKey) (signature : List ℕ) : Type 0 where

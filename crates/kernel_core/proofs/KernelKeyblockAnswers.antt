@@ -12,6 +12,7 @@ use Rattle.chain_core.specs.Accepted.{Asked}
 use Rattle.chain_core.specs.SlotNumbers.{keyblock_number}
 use Rattle.chain_core.specs.Tables.{keyblock_table, data_key_lines}
 use Rattle.chain_core.specs.Checking.{ChecksKeyblock, view_question}
+use Rattle.chain_core.proofs.SlotExits.{keyblock_answer}
 use Rattle.chain_core.proofs.Keys.{data_key_known, data_key_range}
 use Rattle.kernel_core.specs.Rules.{hash_is_enough, versions_are_checked}
 use Rattle.kernel_core.specs.KernelTables.{KernelKeyblockQuestion, signed_question, FlagQuestion, flag_lines, flag_question, signed_table, hashed_table, kernel_keyblock_fault}
@@ -25,9 +26,6 @@ use Rattle.kernel_core.proofs.KeyblockTables.{signed_fault, flags_fault, no_sign
 pub kernel_keyblock_faulty : {E : Type 0} (bytes : List ℕ) (signer : PackedKey) (rules : KernelRules) (old new : HookState) (fault : KeyblockFault) → Asked old new false
     → (IsTrue old.told → kernel_keyblock_fault (kernel_keyblock_question bytes signer rules old) ≡ Some fault) → ChecksKernelKeyblock {E = E} bytes signer rules old new (Ok (Err fault))
 kernel_keyblock_faulty bytes signer rules old new fault asked found = record { asked = asked; fault = found; none = λ told. tt; read = tt }
-
-pub kernel_keyblock_failed : {E : Type 0} (bytes : List ℕ) (signer : PackedKey) (rules : KernelRules) (old new : HookState) (e : E) → Asked old new true → ChecksKernelKeyblock {E = E} bytes signer rules old new (Err e)
-kernel_keyblock_failed bytes signer rules old new e asked = record { asked = asked; fault = λ told. tt; none = λ told. tt; read = tt }
 
 pub kernel_keyblock_good : {E : Type 0} (bytes : List ℕ) (signer : PackedKey) (rules : KernelRules) (old new : HookState) (keyblock : Keyblock) → Asked old new false
     → (IsTrue old.told → kernel_keyblock_fault (kernel_keyblock_question bytes signer rules old) ≡ None) → KernelKeyblockRead bytes signer rules keyblock
@@ -65,40 +63,11 @@ read_hashed bytes signer rules keyblock enough parts fits key = record {
 
 -- ---- what the check by the signature found
 
-pub record SignedFaulty (bytes : List ℕ) (signer : PackedKey) (rules : KernelRules) (old new : HookState) (fault : KeyblockFault) : Type 0 where
-  pub asked : Asked old new false
-  pub found : IsTrue old.told → first_fault keyblock_table (signed_question (kernel_keyblock_question bytes signer rules old)) ≡ Some fault
-
-pub signed_faulty : {E : Type 0} (bytes : List ℕ) (signer : PackedKey) (rules : KernelRules) (checked : Bool) (old new : HookState) (result : Result (Result Keyblock KeyblockFault) E) (answer : Result Keyblock KeyblockFault) (fault : KeyblockFault)
-    → checked ≡ versions_are_checked rules → ChecksKeyblock bytes signer rules.stored checked old new result → result ≡ Ok answer → answer ≡ Err fault → SignedFaulty bytes signer rules old new fault
-signed_faulty {E} bytes signer rules checked old new result answer fault same checks is is' =
-    let found : ChecksKeyblock {E = E} bytes signer rules.stored (versions_are_checked rules) old new (Ok (Err fault)) =
-    subst (λ (c : Bool). ChecksKeyblock {E = E} bytes signer rules.stored c old new (Ok (Err fault))) same
-    (subst (λ (a : Result Keyblock KeyblockFault). ChecksKeyblock {E = E} bytes signer rules.stored checked old new (Ok a)) is' (subst (λ (r : Result (Result Keyblock KeyblockFault) E). ChecksKeyblock bytes signer rules.stored checked old new r) is checks)) in
-    record { asked = found.asked; found = found.fault }
-
-pub record SignedGood (bytes : List ℕ) (signer : PackedKey) (rules : KernelRules) (old new : HookState) (keyblock : Keyblock) : Type 0 where
-  pub asked : Asked old new false
-  pub none : IsTrue old.told → first_fault keyblock_table (signed_question (kernel_keyblock_question bytes signer rules old)) ≡ None
-  pub read : ReadBySignature bytes signer keyblock
-  pub key : first_fault data_key_lines (view_question keyblock.data_key rules.stored (versions_are_checked rules)) ≡ None
-
-pub signed_good : {E : Type 0} (bytes : List ℕ) (signer : PackedKey) (rules : KernelRules) (checked : Bool) (old new : HookState) (result : Result (Result Keyblock KeyblockFault) E) (answer : Result Keyblock KeyblockFault) (keyblock : Keyblock)
-    → checked ≡ versions_are_checked rules → ChecksKeyblock bytes signer rules.stored checked old new result → result ≡ Ok answer → answer ≡ Ok keyblock → SignedGood bytes signer rules old new keyblock
-signed_good {E} bytes signer rules checked old new result answer keyblock same checks is is' =
-    let found : ChecksKeyblock {E = E} bytes signer rules.stored (versions_are_checked rules) old new (Ok (Ok keyblock)) =
-    subst (λ (c : Bool). ChecksKeyblock {E = E} bytes signer rules.stored c old new (Ok (Ok keyblock))) same
-    (subst (λ (a : Result Keyblock KeyblockFault). ChecksKeyblock {E = E} bytes signer rules.stored checked old new (Ok a)) is' (subst (λ (r : Result (Result Keyblock KeyblockFault) E). ChecksKeyblock bytes signer rules.stored checked old new r) is checks)) in
-    record {
-      asked = found.asked;
-      none = found.none;
-      read = record { parts = found.parts; fits = found.fits; signed = found.signed; copy = found.copy };
-      key = found.key;
-    }
-
-pub signed_failed : {E : Type 0} (bytes : List ℕ) (signer : PackedKey) (stored : ℕ) (checked : Bool) (old new : HookState) (result : Result (Result Keyblock KeyblockFault) E) (e : E)
-    → ChecksKeyblock bytes signer stored checked old new result → result ≡ Err e → Asked old new true
-signed_failed bytes signer stored checked old new result e checks is = (subst (ChecksKeyblock bytes signer stored checked old new) is checks).asked
+pub signed_answer : {E : Type 0} (bytes : List ℕ) (signer : PackedKey) (rules : KernelRules) (checked : Bool) (old new : HookState) (result answer : Result (Result Keyblock KeyblockFault) E)
+    → checked ≡ versions_are_checked rules → ChecksKeyblock bytes signer rules.stored checked old new result → result ≡ answer
+    → ChecksKeyblock bytes signer rules.stored (versions_are_checked rules) old new answer
+signed_answer {E} bytes signer rules checked old new result answer same checks is =
+    subst (λ (c : Bool). ChecksKeyblock {E = E} bytes signer rules.stored c old new answer) same (keyblock_answer bytes signer rules.stored checked old new result answer checks is)
 
 -- ---- which table decides
 
@@ -124,15 +93,15 @@ enough_of false b c is e = absurd (let never : false ≡ true = sym is ∙ e in 
 
 -- the keyblock that was read by its hash, or its fault
 pub hashed_answer : {E : Type 0} (bytes : List ℕ) (signer : PackedKey) (rules : KernelRules) (old new : HookState) (fault : KeyblockFault) (b : Bool) (answer : Result Keyblock KeyblockFault)
-    → SignedFaulty bytes signer rules old new fault → b ≡ (hash_is_enough rules && nat_le (keyblock_number fault) 13) → b ≡ true
+    → ChecksKeyblock {E = E} bytes signer rules.stored (versions_are_checked rules) old new (Ok (Err fault)) → b ≡ (hash_is_enough rules && nat_le (keyblock_number fault) 13) → b ≡ true
     → IfErr answer (λ found. first_fault hashed_table bytes ≡ Some found) → OnOk answer (first_fault hashed_table bytes ≡ None)
     → IfOk answer (λ keyblock. keyblock ≡ keyblock_in seals.Hash bytes) → IfOk answer (KeyblockFits seals.Hash bytes) → IfOk answer (λ keyblock. first_fault data_key_lines (view_question keyblock.data_key 0 false) ≡ None)
     → ChecksKernelKeyblock {E = E} bytes signer rules old new (Ok answer)
 hashed_answer bytes signer rules old new fault b (Ok keyblock) faulty is yes' found none parts fits key =
-    kernel_keyblock_good bytes signer rules old new keyblock faulty.asked (λ told. dropped (kernel_keyblock_question bytes signer rules old) fault b (faulty.found told) is yes' ∙ none)
+    kernel_keyblock_good bytes signer rules old new keyblock faulty.asked (λ told. dropped (kernel_keyblock_question bytes signer rules old) fault b (faulty.fault told) is yes' ∙ none)
     (read_hashed bytes signer rules keyblock (enough_of (hash_is_enough rules) (nat_le (keyblock_number fault) 13) b is yes') parts fits key)
 hashed_answer bytes signer rules old new fault b (Err other) faulty is yes' found none parts fits key =
-    kernel_keyblock_faulty bytes signer rules old new other faulty.asked (λ told. dropped (kernel_keyblock_question bytes signer rules old) fault b (faulty.found told) is yes' ∙ found)
+    kernel_keyblock_faulty bytes signer rules old new other faulty.asked (λ told. dropped (kernel_keyblock_question bytes signer rules old) fault b (faulty.fault told) is yes' ∙ found)
 
 abbrev flags_of : ℕ → KernelRules → FlagQuestion
 flags_of flags rules = record { flags = flags; rules = rules }

@@ -8,8 +8,9 @@ use Rattle.key_core.specs.Parts.{Key}
 use Rattle.key_core.specs.declared.keyblock.Seal.TheVariants as seals
 use Rattle.key_core.specs.declared.fault.KeyblockFault.{KeyblockFault}
 use Rattle.chain_core.specs.SlotNumbers.{keyblock_number}
-use Rattle.chain_core.specs.Tables.{lifted, KeyblockQuestion, keyblock_table, DataKeyQuestion, data_key_lines}
+use Rattle.chain_core.specs.Tables.{lifted, KeyblockQuestion, keyblock_table, data_key_lines}
 use Rattle.chain_core.specs.Checking.{view_question}
+use Rattle.chain_core.proofs.Checking.{same_data_key}
 use Rattle.chain_core.proofs.Lifted.{lifted-none, lifted-some}
 use Rattle.kernel_core.specs.Rules.{hash_is_enough}
 use Rattle.kernel_core.specs.KernelTables.{KernelKeyblockQuestion, signed_question, lines_to_seal, flag_lines, flag_question, signed_table, HashQuestion, hash_lines, hash_question, unchecked_question, hashed_table, kernel_keyblock_fault}
@@ -74,12 +75,9 @@ hash_same : (bytes : List ℕ) (keyblock : Keyblock) → HashViewed bytes keyblo
 hash_same bytes keyblock viewed =
     same_hash (hash_asked keyblock) (hash_question bytes) viewed.seal_size (ap (λ (k : Keyblock). k.seal_bytes) viewed.parts) (ap (λ (k : Keyblock). k.signed) viewed.parts)
 
-same_key : (a b : DataKeyQuestion) → a.algorithm ≡ b.algorithm → a.size ≡ b.size → a.version ≡ b.version → a.stored ≡ b.stored → a.rollback ≡ b.rollback → a ≡ b
-same_key a b h s v t r = λ i. record { algorithm = h i; size = s i; version = v i; stored = t i; rollback = r i }
-
 key_same : (bytes : List ℕ) (keyblock : Keyblock) → HashViewed bytes keyblock → view_question keyblock.data_key 0 false ≡ unchecked_question bytes
 key_same bytes keyblock viewed =
-    same_key (view_question keyblock.data_key 0 false) (unchecked_question bytes) (ap (λ (k : Keyblock). k.data_key.algorithm) viewed.parts) viewed.key_size (ap (λ (k : Keyblock). k.data_key.version) viewed.parts) refl refl
+    same_data_key (view_question keyblock.data_key 0 false) (unchecked_question bytes) (ap (λ (k : Keyblock). k.data_key.algorithm) viewed.parts) viewed.key_size (ap (λ (k : Keyblock). k.data_key.version) viewed.parts) refl refl
 
 pub hashed_seal_fault : (bytes : List ℕ) (keyblock : Keyblock) (fault : KeyblockFault) → HashViewed bytes keyblock → first_fault hash_lines (hash_asked keyblock) ≡ Some fault → first_fault hashed_table bytes ≡ Some fault
 hashed_seal_fault bytes keyblock fault viewed e =

@@ -59,14 +59,16 @@ pub record TakesBytes {E : Type 0} (lba count : ℕ) (old new : DiskState) (hash
 -- Bytes that a body has in common with the head's were taken from there.
 pub record TakesFront (at count : ℕ) (vblock : List ℕ) (hasher hasher' : Hasher) (body body' : List ℕ) : Type 0 where
   pub behind : body' ≡ body ++ range vblock at count
-  pub taken : (algorithm : ℕ) (message : List ℕ) → HoldsMessage algorithm hasher message → HoldsMessage algorithm hasher' (message ++ range vblock at count)
+  pub taken : (algorithm : ℕ) (message : List ℕ) → HoldsMessage algorithm hasher message →
+      HoldsMessage algorithm hasher' (message ++ range vblock at count)
 
 -- how many sectors a body that begins at this byte of its partition touches past the first 128
 abbrev pub later_sectors : (at len : ℕ) → ℕ
 later_sectors at len = (at + len - 65536 + 511) / 512
 
 -- The call to read a body of which the partition begins at a sector.
-pub record ReadsKernelBody {E : Type 0} (first at len algorithm : ℕ) (old new : DiskState) (body : List ℕ) (result : Result Hasher E) : Type 0 where
+pub record ReadsKernelBody {E : Type 0} (first at len algorithm : ℕ) (old new : DiskState)
+    (body : List ℕ) (result : Result Hasher E) : Type 0 where
   pub looks : LooksAtDisk (later_sectors at len) old new (is_err result)
   -- the hasher has taken in the body
   pub hashed : IfOk result (λ hasher. HoldsMessage algorithm hasher body)

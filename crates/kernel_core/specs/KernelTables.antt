@@ -1,12 +1,11 @@
 -- The fault tables of a kernel's keyblock and preamble. The lines that a firmware slot has too are those of its tables.
 -- Source: `vb2_verify_kernel_vblock`, `vb2_verify_keyblock`, `vb2_verify_keyblock_hash` and `vb2_verify_kernel_preamble` of
 -- vboot_reference (firmware/2lib/2load_kernel.c, 2packed_key.c and 2common.c).
-use Rattle.std.specs.Prelude.{ℕ, Bool, false, not, ◌&&◌, List, [], ◌∷◌, ◌++◌, take, bit_and, nat_lt, nat_eq, ◌==◌, Option, is_some, if◌then◌else◌}
+use Rattle.std.specs.Prelude.{ℕ, Bool, false, not, ◌&&◌, List, [], ◌∷◌, ◌++◌, take, bit_and, nat_eq, ◌==◌, Option, is_some, if◌then◌else◌}
 use Rattle.std.specs.Cmp.Lexicographic.{pointwise}
 use Rattle.sha2.specs.Sha512.{sha512}
 use Rattle.wire_core.specs.FirstFault.{Table, line, first_fault}
 use Rattle.board_core.specs.declared.hook_row.HookRow.{HookRow}
-use Rattle.key_core.specs.Algorithms.{signature_length}
 use Rattle.key_core.specs.Keyblocks.{keyblock_lines, keyblock_in, seal_of, data_key_of}
 use Rattle.key_core.specs.declared.layout.TheConstants.{KEYBLOCK_FLAGS}
 use Rattle.key_core.specs.declared.key.PackedKey.{PackedKey}
@@ -16,8 +15,9 @@ use Rattle.key_core.specs.declared.fault.KeyblockFault.TheVariants as keyblock_f
 use Rattle.preamble_core.specs.Kernel.{KernelPreamble, kernel_lines, kernel_preamble_in, signature_of}
 use Rattle.preamble_core.specs.declared.fault.KernelPreambleFault.{KernelPreambleFault}
 use Rattle.preamble_core.specs.declared.fault.KernelPreambleFault.TheVariants as preamble_faults
-use Rattle.chain_core.specs.Accepted.{is_enrolled}
-use Rattle.chain_core.specs.Tables.{lifted, KeyblockQuestion, keyblock_table, DataKeyQuestion, data_key_lines, PreambleQuestion, combined_version}
+use Rattle.chain_core.specs.Tables.{lifted, KeyblockQuestion, keyblock_table, DataKeyQuestion, data_key_lines, PreambleQuestion, SignatureQuestion, parts_question, signature_lines}
+use Rattle.chain_core.specs.declared.fault.SignatureFault.{SignatureFault}
+use Rattle.chain_core.specs.declared.fault.SignatureFault.TheVariants as signature_faults
 use Rattle.wire_core.specs.Fields.{number_at}
 use Rattle.kernel_core.specs.Rules.{hash_is_enough, flags_are_checked, versions_are_checked, developer_flag, recovery_flag}
 use Rattle.kernel_core.specs.declared.rules.KernelRules.{KernelRules}
@@ -124,14 +124,19 @@ kernel_keyblock_fault q =
 abbrev pub preamble_of : PreambleQuestion → KernelPreamble
 preamble_of q = kernel_preamble_in q.bytes
 
+abbrev pub asked_of_signature : PreambleQuestion → SignatureQuestion
+asked_of_signature q = parts_question (preamble_of q).signed (preamble_of q).signature (signature_of q.bytes).size (preamble_of q).version q
+
+-- the name of a line on the signature in the table of a kernel preamble
+abbrev pub kernel_line : SignatureFault → KernelPreambleFault
+kernel_line signature_faults.SigSize = preamble_faults.SigSize
+kernel_line signature_faults.Refused = preamble_faults.Refused
+kernel_line signature_faults.VersionRange = preamble_faults.VersionRange
+kernel_line signature_faults.Rollback = preamble_faults.Rollback
+
 -- lines 8 to 11
 abbrev pub further_kernel_lines : Table PreambleQuestion KernelPreambleFault
-further_kernel_lines =
-    line preamble_faults.SigSize (λ q. not ((signature_of q.bytes).size == signature_length q.key.algorithm))
-    ∷ line preamble_faults.Refused (λ q. not (is_enrolled q.rows q.key (preamble_of q).signed (preamble_of q).signature))
-    ∷ line preamble_faults.VersionRange (λ q. nat_lt 65535 (preamble_of q).version)
-    ∷ line preamble_faults.Rollback (λ q. q.rollback && nat_lt (combined_version q.key.version (preamble_of q).version) q.stored)
-    ∷ []
+further_kernel_lines = lifted asked_of_signature kernel_line signature_lines
 
 -- the kernel preamble table: lines 1 to 7, which look at the bytes alone, and lines 8 to 11
 unfoldable pub kernel_preamble_table : Table PreambleQuestion KernelPreambleFault

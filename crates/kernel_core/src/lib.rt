@@ -26,8 +26,3 @@ pub use keyblock::verify_kernel_keyblock;
 pub use preamble::verify_kernel_preamble;
 pub use room::{BodyRoom, LARGEST_BODY, PIECE};
 pub use rules::{BootMode, KernelRules};
-
-#[cfg(test)]
-mod body_tests;
-#[cfg(test)]
-mod head_tests;

@@ -1,11 +1,24 @@
 // The check of a kernel preamble by the data key of its keyblock.
-ghost use Rattle.std.specs.Prelude.{◌≤◌};
+ghost use Rattle.std.specs.Prelude.{◌≡◌, ◌≤◌};
+ghost use Rattle.kernel_core.specs.KernelTables.{kernel_line};
 ghost use Rattle.kernel_core.specs.HeadChecks.{ChecksKernelPreamble};
 
 use board_core::{Failed, Hook};
-use chain_core::{LARGEST_VERSION, combined_version, is_signed};
-use key_core::{LARGEST_KEY, LAST_ALGORITHM, PackedKey, signature_length};
+use chain_core::{LARGEST_VERSION, SignatureFault, signature_fault};
+use key_core::{LARGEST_KEY, LAST_ALGORITHM, PackedKey};
 use preamble_core::{KernelPreambleFault, KernelPreambleView};
+
+// The line of the kernel preamble table that this is.
+fn kernel_line(fault: SignatureFault) -> KernelPreambleFault
+    ensures { result ≡ kernel_line fault }
+{
+    match fault {
+        SignatureFault::SigSize => KernelPreambleFault::SigSize,
+        SignatureFault::Refused => KernelPreambleFault::Refused,
+        SignatureFault::VersionRange => KernelPreambleFault::VersionRange,
+        SignatureFault::Rollback => KernelPreambleFault::Rollback,
+    }
+}
 
 /// The kernel preamble that the bytes begin with, of which the signature is to be one of the data key `key`. `stored` is the
 /// stored version word, and is looked at only where `rollback` says so. The hook keeps its rows.
@@ -28,18 +41,17 @@ pub fn verify_kernel_preamble<'a, H: Hook>(
         Ok(preamble) => preamble,
         Err(fault) => return Ok(Err(fault)),
     };
-    if preamble.signature().len() != signature_length(key.algorithm) as usize {
-        return Ok(Err(KernelPreambleFault::SigSize));
+    let found = signature_fault(
+        hook,
+        key,
+        preamble.signed(),
+        preamble.signature(),
+        preamble.version(),
+        stored,
+        rollback,
+    )?;
+    match found {
+        Some(fault) => Ok(Err(kernel_line(fault))),
+        None => Ok(Ok(preamble)),
     }
-    if !is_signed(hook, key, preamble.signed(), preamble.signature())? {
-        return Ok(Err(KernelPreambleFault::Refused));
-    }
-    let version = preamble.version();
-    if version > LARGEST_VERSION {
-        return Ok(Err(KernelPreambleFault::VersionRange));
-    }
-    if rollback && combined_version(key.version, version) < stored {
-        return Ok(Err(KernelPreambleFault::Rollback));
-    }
-    Ok(Ok(preamble))
 }

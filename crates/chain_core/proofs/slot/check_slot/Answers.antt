@@ -1,256 +1,161 @@
 -- At each exit the calls that were made changed nothing, and what they found decides the answer.
-use Rattle.std.proofs.Common.{◌≡◌, ◌∙◌, ◌≤◌, ℕ, List, Some, None, Ok, Err, false, length, drop, refl, sym, subst, ap, arith}
-use Rattle.std.specs.Prelude.{IsTrue, is_err}
+use Rattle.std.proofs.Common.{◌≡◌, ◌∙◌, ◌≤◌, ℕ, Option, Some, None, Result, Ok, Err, false, length, drop, refl, sym, subst, ap, arith}
 use Rattle.board_core.specs.Flash.{FlashMedium}
 use Rattle.key_core.specs.Parts.{Key}
-use Rattle.rom_core.specs.Gbb.{Looks, area_bytes}
+use Rattle.rom_core.specs.Gbb.{area_bytes}
 use Rattle.chain_core.specs.Tables.{combined_version}
-use Rattle.chain_core.specs.Slot.{SlotQuestion}
+use Rattle.chain_core.specs.Slot.{slot_question}
+use Rattle.chain_core.specs.declared.fault.BodyFault.{BodyFault}
+use Rattle.chain_core.specs.declared.fault.Failure.{Failure}
 use Rattle.chain_core.specs.declared.fault.Failure.TheVariants as failures
 use Rattle.chain_core.proofs.Keys.{known_fits}
 use Rattle.chain_core.proofs.Said.{asked_then}
 use Rattle.chain_core.proofs.Slots.{at_keyblock}
-use Rattle.chain_core.proofs.SlotAnswers.{slot_faulted, slot_failed, slot_good, GoodKeyblock, good_keyblock, GoodPreamble, good_preamble, Copied, Opened, Ready}
-use Rattle.chain_core.proofs.SlotExits.{read_looks, read_filled, KeyblockFaulty, keyblock_faulty, PreambleFaulty, preamble_faulty, preamble_failed, preamble_shown, Ended, ended_of, ended_looks, ended_asked, body_shown, good_of}
+use Rattle.chain_core.proofs.SlotAnswers.{slot_faulted, slot_failed, slot_good, GoodKeyblock, good_keyblock, good_preamble, Copied, KeyblockStep, keyblock_step, with_head, Opened}
+use Rattle.chain_core.proofs.SlotExits.{HeadRead, head_read, keyblock_answer, preamble_answer, preamble_shown, BodyStep, Ended, ended_of, ended_looks, ended_asked, body_shown, good_of}
+use Rattle.chain_core.proofs.slot.check_slot.Given.{Over}
 use Rattle.chain_core.proofs.slot.check_slot.Goals as goal
+use Rattle.chain_core.proofs.slot.check_slot.Goals.{After-verify_keyblock, In-Ok-Ok, After-verify_preamble, After-verify_flash_body}
 
-pub returns-in-Ok-Err-clause-meets : goal.returns-in-Ok-Err-clause-meets
-returns-in-Ok-Err-clause-meets g c =
-    let flash = g.F.Flash.state c.args.flash.now in
-    let flash' = g.F.Flash.state c.read.new.self in
-    let hook = g.H.Hook.state c.args.hook.now in
-    let hook' = g.H.Hook.state c.verify_keyblock.new.hook in
-    let buf = c.read.new.buf in
-    let no_error : is_err c.read.result ≡ false = sym c.is_err.ensures.value ∙ c.if-is_err.false in
-    let long : length buf ≡ c.args.vblock.size = omega arith in
-    let looks : Looks flash flash' false = read_looks _ buf flash flash' c.read.result c.read.ensures.meets no_error in
-    let filled : IsTrue flash.medium.told → buf ≡ area_bytes c.args.vblock flash.medium = read_filled c.args.vblock buf flash flash' c.read.result c.read.ensures.meets no_error long in
-    let question : List ℕ → SlotQuestion = λ bytes. record { vblock = bytes; main = area_bytes c.args.main flash.medium; rows = hook.rows; root = c.args.root.now; stored = c.args.stored; rollback = c.args.rollback } in
-    let faulty : KeyblockFaulty buf c.args.root.now c.args.stored c.args.rollback hook hook' c.in-Ok-Err.fault = keyblock_faulty buf c.args.root.now c.args.stored c.args.rollback hook hook' c.verify_keyblock.result c.in-Ok-Err.field-0 c.in-Ok-Err.fault c.verify_keyblock.ensures.meets c.in-Ok-Err.is c.in-Ok-Err.field-0-is in
-    slot_faulted question buf (area_bytes c.args.vblock flash.medium) flash flash' hook hook' _ _ looks faulty.asked filled (λ told told'. at_keyblock (question buf) c.in-Ok-Err.fault (faulty.found told'))
+-- ---- what the calls found, as far as each
+
+read : (g : Over) (c : After-verify_keyblock g) → HeadRead c.args.vblock c.read.new.buf (g.F.Flash.state c.args.flash.now) (g.F.Flash.state c.read.new.self)
+read g c = head_read c.args.vblock c.read.new.buf _ _ c.read.result c.read.ensures.meets (sym c.is_err.ensures.value ∙ c.if-is_err.false) (omega arith)
+
+good : (g : Over) (c : In-Ok-Ok g) → GoodKeyblock c.read.new.buf c.args.root.now c.args.stored c.args.rollback (g.H.Hook.state c.args.hook.now) (g.H.Hook.state c.verify_keyblock.new.hook) c.in-Ok-Ok.keyblock
+good g c = good_keyblock _ _ _ _ _ _ _ _ _ c.verify_keyblock.ensures.meets c.in-Ok-Ok.is c.in-Ok-Ok.field-0-is
+
+abbrev opening : (g : Over) → After-verify_preamble g → KeyblockStep
+opening g c =
+    let q = slot_question c.args.root.now c.args.vblock c.args.main c.args.stored c.args.rollback (g.F.Flash.state c.args.flash.now) (g.H.Hook.state c.args.hook.now) in
+    keyblock_step (with_head q c.read.new.buf) (g.H.Hook.state c.args.hook.now) (g.H.Hook.state c.verify_keyblock.new.hook) c.in-Ok-Ok.keyblock c.pack-key.result c.behind-rest.result.now
+
+opened : (g : Over) (c : After-verify_preamble g)
+    → GoodKeyblock c.read.new.buf c.args.root.now c.args.stored c.args.rollback (g.H.Hook.state c.args.hook.now) (g.H.Hook.state c.verify_keyblock.new.hook) c.in-Ok-Ok.keyblock → Opened (opening g c)
+opened g c good = record {
+  good = good;
+  rows = refl;
+  copied = subst (λ (k : Key). Copied k c.pack-key.result) c.data_key.ensures (record { algorithm = c.pack-key.ensures.algorithm; version = c.pack-key.ensures.version; size = c.pack-key.ensures.size; bytes = c.pack-key.ensures.bytes; front = c.pack-key.ensures.front });
+  behind = c.behind-rest.ensures ∙ ap (λ (n : ℕ). drop n c.read.new.buf) c.size.ensures;
+}
+
+abbrev body_step : (g : Over) → After-verify_flash_body g → BodyStep
+body_step g c =
+    let q = slot_question c.args.root.now c.args.vblock c.args.main c.args.stored c.args.rollback (g.F.Flash.state c.args.flash.now) (g.H.Hook.state c.args.hook.now) in
+    record {
+      before = record {
+        before = keyblock_step (with_head q c.read.new.buf) (g.H.Hook.state c.args.hook.now) (g.H.Hook.state c.verify_keyblock.new.hook) c.in-Ok-Ok.keyblock c.pack-key.result c.behind-rest.result.now;
+        hook = g.H.Hook.state c.verify_preamble.new.hook;
+        preamble = c.in-Ok-Ok-verify_preamble.preamble;
+        main = c.args.main;
+        flash = g.F.Flash.state c.read.new.self;
+      };
+      hook = g.H.Hook.state c.verify_flash_body.new.hook;
+      flash = g.F.Flash.state c.args.flash.now;
+      flash' = g.F.Flash.state c.verify_flash_body.new.flash;
+      signature = c.body_signature.result.now;
+      len = c.body_len-body_len.result;
+      out = c.verify_flash_body.new.body.items;
+    }
+
+ended : (g : Over) (c : After-verify_flash_body g) (answer : Result (Option BodyFault) Failure) → HeadRead c.args.vblock c.read.new.buf (body_step g c).flash (body_step g c).before.flash → Opened (body_step g c).before.before
+    → c.verify_flash_body.result ≡ answer → Ended (body_step g c) answer
+ended g c answer head opened is =
+    ended_of (body_step g c) c.verify_flash_body.result answer (record {
+      ready = record {
+        opened = opened;
+        good = good_preamble _ _ _ _ _ _ _ _ _ c.verify_preamble.ensures.meets c.in-Ok-Ok-verify_preamble.is c.in-Ok-Ok-verify_preamble.field-0-is;
+        area = ap (λ (m : FlashMedium). area_bytes c.args.main m) (sym head.looks.medium);
+      };
+      checks = c.verify_flash_body.ensures.meets;
+      looks = head.looks;
+      inside = λ told. omega (arith, c.requires.main_inside, g.met.F.Flash.told_size c.args.flash.now told);
+      signature_is = c.body_signature.ensures;
+      len_is = c.body_len-body_len.ensures;
+    }) is
+
+-- ---- the sizes that the calls ask for
+
+key_size : (g : Over) (c : In-Ok-Ok g) → length c.in-Ok-Ok.keyblock.data_key.bytes ≤ 2056
+key_size g c = known_fits c.in-Ok-Ok.keyblock.data_key.algorithm _ (good g c).known
 
 pub verify_preamble-requires-clause-size : goal.verify_preamble-requires-clause-size
 verify_preamble-requires-clause-size g c =
-    let flash = g.F.Flash.state c.args.flash.now in
-    let hook = g.H.Hook.state c.args.hook.now in
-    let hook' = g.H.Hook.state c.verify_keyblock.new.hook in
-    let buf = c.read.new.buf in
-    let keyblock = c.in-Ok-Ok.keyblock in
-    let good : GoodKeyblock buf c.args.root.now c.args.stored c.args.rollback hook hook' keyblock = good_keyblock buf c.args.root.now c.args.stored c.args.rollback hook hook' c.verify_keyblock.result c.in-Ok-Ok.field-0 keyblock c.verify_keyblock.ensures.meets c.in-Ok-Ok.is c.in-Ok-Ok.field-0-is in
-    let key : c.data_key.result ≡ keyblock.data_key = c.data_key.ensures in
-    let size : c.pack-key.result.size ≡ length keyblock.data_key.bytes = c.pack-key.ensures.size ∙ ap (λ (k : Key). length k.bytes) key in
-    let most : length keyblock.data_key.bytes ≤ 2056 = known_fits keyblock.data_key.algorithm (length keyblock.data_key.bytes) good.known in
+    let most = key_size g (goal.at.verify_preamble-requires-clause-size g c).In-Ok-Ok in
+    let size = c.pack-key.ensures.size ∙ ap (λ (k : Key). length k.bytes) c.data_key.ensures in
     omega (arith, size, most)
 
 pub verify_preamble-requires-clause-version : goal.verify_preamble-requires-clause-version
 verify_preamble-requires-clause-version g c =
-    let flash = g.F.Flash.state c.args.flash.now in
-    let hook = g.H.Hook.state c.args.hook.now in
-    let hook' = g.H.Hook.state c.verify_keyblock.new.hook in
-    let buf = c.read.new.buf in
-    let keyblock = c.in-Ok-Ok.keyblock in
-    let good : GoodKeyblock buf c.args.root.now c.args.stored c.args.rollback hook hook' keyblock = good_keyblock buf c.args.root.now c.args.stored c.args.rollback hook hook' c.verify_keyblock.result c.in-Ok-Ok.field-0 keyblock c.verify_keyblock.ensures.meets c.in-Ok-Ok.is c.in-Ok-Ok.field-0-is in
-    let version : c.pack-key.result.version ≡ keyblock.data_key.version = c.pack-key.ensures.version ∙ ap (λ (k : Key). k.version) c.data_key.ensures in
-    let most = good.range in
+    let most = (good g (goal.at.verify_preamble-requires-clause-version g c).In-Ok-Ok).range in
+    let version = c.pack-key.ensures.version ∙ ap (λ (k : Key). k.version) c.data_key.ensures in
     omega (arith, version, most)
-
-pub returns-in-Ok-Err-verify_preamble-clause-meets : goal.returns-in-Ok-Err-verify_preamble-clause-meets
-returns-in-Ok-Err-verify_preamble-clause-meets g c =
-    let flash = g.F.Flash.state c.args.flash.now in
-    let flash' = g.F.Flash.state c.read.new.self in
-    let hook = g.H.Hook.state c.args.hook.now in
-    let hook' = g.H.Hook.state c.verify_keyblock.new.hook in
-    let buf = c.read.new.buf in
-    let no_error : is_err c.read.result ≡ false = sym c.is_err.ensures.value ∙ c.if-is_err.false in
-    let long : length buf ≡ c.args.vblock.size = omega arith in
-    let looks : Looks flash flash' false = read_looks _ buf flash flash' c.read.result c.read.ensures.meets no_error in
-    let filled : IsTrue flash.medium.told → buf ≡ area_bytes c.args.vblock flash.medium = read_filled c.args.vblock buf flash flash' c.read.result c.read.ensures.meets no_error long in
-    let question : List ℕ → SlotQuestion = λ bytes. record { vblock = bytes; main = area_bytes c.args.main flash.medium; rows = hook.rows; root = c.args.root.now; stored = c.args.stored; rollback = c.args.rollback } in
-    let keyblock = c.in-Ok-Ok.keyblock in
-    let packed = c.pack-key.result in
-    let rest = c.behind-rest.result.now in
-    let good : GoodKeyblock buf c.args.root.now c.args.stored c.args.rollback hook hook' keyblock = good_keyblock buf c.args.root.now c.args.stored c.args.rollback hook hook' c.verify_keyblock.result c.in-Ok-Ok.field-0 keyblock c.verify_keyblock.ensures.meets c.in-Ok-Ok.is c.in-Ok-Ok.field-0-is in
-    let copied : Copied keyblock.data_key packed = subst (λ (k : Key). Copied k packed) c.data_key.ensures (record { algorithm = c.pack-key.ensures.algorithm; version = c.pack-key.ensures.version; size = c.pack-key.ensures.size; bytes = c.pack-key.ensures.bytes; front = c.pack-key.ensures.front }) in
-    let opened : Opened (question buf) hook hook' keyblock packed rest = record { good = good; rows = refl; copied = copied; behind = c.behind-rest.ensures ∙ ap (λ (n : ℕ). drop n buf) c.size.ensures } in
-    let hook'' = g.H.Hook.state c.verify_preamble.new.hook in
-    let faulty : PreambleFaulty rest packed c.args.stored c.args.rollback hook' hook'' c.in-Ok-Err-verify_preamble.fault = preamble_faulty rest packed c.args.stored c.args.rollback hook' hook'' c.verify_preamble.result c.in-Ok-Err-verify_preamble.field-0 c.in-Ok-Err-verify_preamble.fault c.verify_preamble.ensures.meets c.in-Ok-Err-verify_preamble.is c.in-Ok-Err-verify_preamble.field-0-is in
-    slot_faulted question buf (area_bytes c.args.vblock flash.medium) flash flash' hook hook'' _ _ looks (asked_then hook hook' hook'' false good.asked faulty.asked) filled
-    (λ told told'. preamble_shown (question buf) hook hook' hook'' keyblock packed rest c.in-Ok-Err-verify_preamble.fault opened faulty told')
-
-pub returns-in-Err-verify_preamble-clause-meets : goal.returns-in-Err-verify_preamble-clause-meets
-returns-in-Err-verify_preamble-clause-meets g c =
-    let flash = g.F.Flash.state c.args.flash.now in
-    let flash' = g.F.Flash.state c.read.new.self in
-    let hook = g.H.Hook.state c.args.hook.now in
-    let hook' = g.H.Hook.state c.verify_keyblock.new.hook in
-    let buf = c.read.new.buf in
-    let no_error : is_err c.read.result ≡ false = sym c.is_err.ensures.value ∙ c.if-is_err.false in
-    let long : length buf ≡ c.args.vblock.size = omega arith in
-    let looks : Looks flash flash' false = read_looks _ buf flash flash' c.read.result c.read.ensures.meets no_error in
-    let filled : IsTrue flash.medium.told → buf ≡ area_bytes c.args.vblock flash.medium = read_filled c.args.vblock buf flash flash' c.read.result c.read.ensures.meets no_error long in
-    let question : List ℕ → SlotQuestion = λ bytes. record { vblock = bytes; main = area_bytes c.args.main flash.medium; rows = hook.rows; root = c.args.root.now; stored = c.args.stored; rollback = c.args.rollback } in
-    let keyblock = c.in-Ok-Ok.keyblock in
-    let packed = c.pack-key.result in
-    let rest = c.behind-rest.result.now in
-    let good : GoodKeyblock buf c.args.root.now c.args.stored c.args.rollback hook hook' keyblock = good_keyblock buf c.args.root.now c.args.stored c.args.rollback hook hook' c.verify_keyblock.result c.in-Ok-Ok.field-0 keyblock c.verify_keyblock.ensures.meets c.in-Ok-Ok.is c.in-Ok-Ok.field-0-is in
-    let copied : Copied keyblock.data_key packed = subst (λ (k : Key). Copied k packed) c.data_key.ensures (record { algorithm = c.pack-key.ensures.algorithm; version = c.pack-key.ensures.version; size = c.pack-key.ensures.size; bytes = c.pack-key.ensures.bytes; front = c.pack-key.ensures.front }) in
-    let opened : Opened (question buf) hook hook' keyblock packed rest = record { good = good; rows = refl; copied = copied; behind = c.behind-rest.ensures ∙ ap (λ (n : ℕ). drop n buf) c.size.ensures } in
-    let hook'' = g.H.Hook.state c.verify_preamble.new.hook in
-    slot_failed _ flash flash' hook hook'' _ failures.Hook looks
-    (asked_then hook hook' hook'' _ good.asked (preamble_failed rest packed c.args.stored c.args.rollback hook' hook'' c.verify_preamble.result c.in-Err-verify_preamble.field-0 c.verify_preamble.ensures.meets c.in-Err-verify_preamble.is))
 
 pub verify_flash_body-requires-clause-algorithm : goal.verify_flash_body-requires-clause-algorithm
 verify_flash_body-requires-clause-algorithm g c =
-    let flash = g.F.Flash.state c.args.flash.now in
-    let hook = g.H.Hook.state c.args.hook.now in
-    let hook' = g.H.Hook.state c.verify_keyblock.new.hook in
-    let buf = c.read.new.buf in
-    let keyblock = c.in-Ok-Ok.keyblock in
-    let good : GoodKeyblock buf c.args.root.now c.args.stored c.args.rollback hook hook' keyblock = good_keyblock buf c.args.root.now c.args.stored c.args.rollback hook hook' c.verify_keyblock.result c.in-Ok-Ok.field-0 keyblock c.verify_keyblock.ensures.meets c.in-Ok-Ok.is c.in-Ok-Ok.field-0-is in
-    let algorithm : c.pack-key.result.algorithm ≡ keyblock.data_key.algorithm = c.pack-key.ensures.algorithm ∙ ap (λ (k : Key). k.algorithm) c.data_key.ensures in
-    let most = good.known.algorithm_known in
+    let most = (good g (goal.at.verify_flash_body-requires-clause-algorithm g c).In-Ok-Ok).known.algorithm_known in
+    let algorithm = c.pack-key.ensures.algorithm ∙ ap (λ (k : Key). k.algorithm) c.data_key.ensures in
     omega (arith, algorithm, most)
 
 pub verify_flash_body-requires-clause-size : goal.verify_flash_body-requires-clause-size
 verify_flash_body-requires-clause-size g c =
-    let flash = g.F.Flash.state c.args.flash.now in
-    let hook = g.H.Hook.state c.args.hook.now in
-    let hook' = g.H.Hook.state c.verify_keyblock.new.hook in
-    let buf = c.read.new.buf in
-    let keyblock = c.in-Ok-Ok.keyblock in
-    let good : GoodKeyblock buf c.args.root.now c.args.stored c.args.rollback hook hook' keyblock = good_keyblock buf c.args.root.now c.args.stored c.args.rollback hook hook' c.verify_keyblock.result c.in-Ok-Ok.field-0 keyblock c.verify_keyblock.ensures.meets c.in-Ok-Ok.is c.in-Ok-Ok.field-0-is in
-    let key : c.data_key.result ≡ keyblock.data_key = c.data_key.ensures in
-    let size : c.pack-key.result.size ≡ length keyblock.data_key.bytes = c.pack-key.ensures.size ∙ ap (λ (k : Key). length k.bytes) key in
-    let most : length keyblock.data_key.bytes ≤ 2056 = known_fits keyblock.data_key.algorithm (length keyblock.data_key.bytes) good.known in
+    let most = key_size g (goal.at.verify_flash_body-requires-clause-size g c).In-Ok-Ok in
+    let size = c.pack-key.ensures.size ∙ ap (λ (k : Key). length k.bytes) c.data_key.ensures in
     omega (arith, size, most)
 
 pub combined_version-requires-clause-key : goal.combined_version-requires-clause-key
 combined_version-requires-clause-key g c =
-    let flash = g.F.Flash.state c.args.flash.now in
-    let hook = g.H.Hook.state c.args.hook.now in
-    let hook' = g.H.Hook.state c.verify_keyblock.new.hook in
-    let buf = c.read.new.buf in
-    let keyblock = c.in-Ok-Ok.keyblock in
-    let good : GoodKeyblock buf c.args.root.now c.args.stored c.args.rollback hook hook' keyblock = good_keyblock buf c.args.root.now c.args.stored c.args.rollback hook hook' c.verify_keyblock.result c.in-Ok-Ok.field-0 keyblock c.verify_keyblock.ensures.meets c.in-Ok-Ok.is c.in-Ok-Ok.field-0-is in
-    let version : c.pack-key.result.version ≡ keyblock.data_key.version = c.pack-key.ensures.version ∙ ap (λ (k : Key). k.version) c.data_key.ensures in
-    let most = good.range in
+    let most = (good g (goal.at.combined_version-requires-clause-key g c).In-Ok-Ok).range in
+    let version = c.pack-key.ensures.version ∙ ap (λ (k : Key). k.version) c.data_key.ensures in
     omega (arith, version, most)
+
+-- ---- exits
+
+pub returns-in-Ok-Err-clause-meets : goal.returns-in-Ok-Err-clause-meets
+returns-in-Ok-Err-clause-meets g c =
+    let head = read g (goal.at.returns-in-Ok-Err-clause-meets g c).After-verify_keyblock in
+    let found = keyblock_answer _ _ _ _ _ _ _ (Ok (Err c.in-Ok-Err.fault)) c.verify_keyblock.ensures.meets (c.in-Ok-Err.is ∙ ap Ok c.in-Ok-Err.field-0-is) in
+    slot_faulted _ c.read.new.buf _ _ _ _ _ _ head.looks found.asked head.filled (λ told told'. at_keyblock _ c.in-Ok-Err.fault (found.fault told'))
+
+pub returns-in-Ok-Err-verify_preamble-clause-meets : goal.returns-in-Ok-Err-verify_preamble-clause-meets
+returns-in-Ok-Err-verify_preamble-clause-meets g c =
+    let at = goal.at.returns-in-Ok-Err-verify_preamble-clause-meets g c in
+    let head = read g at.After-verify_keyblock in
+    let opened = opened g at.After-verify_preamble (good g at.In-Ok-Ok) in
+    let found = preamble_answer _ _ _ _ _ _ _ (Ok (Err c.in-Ok-Err-verify_preamble.fault)) c.verify_preamble.ensures.meets (c.in-Ok-Err-verify_preamble.is ∙ ap Ok c.in-Ok-Err-verify_preamble.field-0-is) in
+    slot_faulted _ c.read.new.buf _ _ _ _ _ _ head.looks (asked_then _ _ _ false opened.good.asked found.asked) head.filled
+    (λ told told'. preamble_shown (opening g at.After-verify_preamble) c.in-Ok-Err-verify_preamble.fault opened found.fault told')
+
+pub returns-in-Err-verify_preamble-clause-meets : goal.returns-in-Err-verify_preamble-clause-meets
+returns-in-Err-verify_preamble-clause-meets g c =
+    let at = goal.at.returns-in-Err-verify_preamble-clause-meets g c in
+    let found = preamble_answer _ _ _ _ _ _ _ (Err c.in-Err-verify_preamble.field-0) c.verify_preamble.ensures.meets c.in-Err-verify_preamble.is in
+    slot_failed _ _ _ _ _ _ failures.Hook (read g at.After-verify_keyblock).looks (asked_then _ _ _ _ (good g at.In-Ok-Ok).asked found.asked)
 
 pub returns-in-Ok-None-clause-meets : goal.returns-in-Ok-None-clause-meets
 returns-in-Ok-None-clause-meets g c =
-    let flash = g.F.Flash.state c.args.flash.now in
-    let flash' = g.F.Flash.state c.read.new.self in
-    let hook = g.H.Hook.state c.args.hook.now in
-    let hook' = g.H.Hook.state c.verify_keyblock.new.hook in
-    let buf = c.read.new.buf in
-    let no_error : is_err c.read.result ≡ false = sym c.is_err.ensures.value ∙ c.if-is_err.false in
-    let long : length buf ≡ c.args.vblock.size = omega arith in
-    let looks : Looks flash flash' false = read_looks _ buf flash flash' c.read.result c.read.ensures.meets no_error in
-    let filled : IsTrue flash.medium.told → buf ≡ area_bytes c.args.vblock flash.medium = read_filled c.args.vblock buf flash flash' c.read.result c.read.ensures.meets no_error long in
-    let question : List ℕ → SlotQuestion = λ bytes. record { vblock = bytes; main = area_bytes c.args.main flash.medium; rows = hook.rows; root = c.args.root.now; stored = c.args.stored; rollback = c.args.rollback } in
-    let keyblock = c.in-Ok-Ok.keyblock in
-    let packed = c.pack-key.result in
-    let rest = c.behind-rest.result.now in
-    let good : GoodKeyblock buf c.args.root.now c.args.stored c.args.rollback hook hook' keyblock = good_keyblock buf c.args.root.now c.args.stored c.args.rollback hook hook' c.verify_keyblock.result c.in-Ok-Ok.field-0 keyblock c.verify_keyblock.ensures.meets c.in-Ok-Ok.is c.in-Ok-Ok.field-0-is in
-    let copied : Copied keyblock.data_key packed = subst (λ (k : Key). Copied k packed) c.data_key.ensures (record { algorithm = c.pack-key.ensures.algorithm; version = c.pack-key.ensures.version; size = c.pack-key.ensures.size; bytes = c.pack-key.ensures.bytes; front = c.pack-key.ensures.front }) in
-    let opened : Opened (question buf) hook hook' keyblock packed rest = record { good = good; rows = refl; copied = copied; behind = c.behind-rest.ensures ∙ ap (λ (n : ℕ). drop n buf) c.size.ensures } in
-    let hook'' = g.H.Hook.state c.verify_preamble.new.hook in
-    let flash'' = g.F.Flash.state c.verify_flash_body.new.flash in
-    let hook''' = g.H.Hook.state c.verify_flash_body.new.hook in
-    let preamble = c.in-Ok-Ok-verify_preamble.preamble in
-    let signature = c.body_signature.result.now in
-    let len = c.body_len-body_len.result in
-    let out = c.verify_flash_body.new.body.items in
-    let good' : GoodPreamble rest packed c.args.stored c.args.rollback hook' hook'' preamble = good_preamble rest packed c.args.stored c.args.rollback hook' hook'' c.verify_preamble.result c.in-Ok-Ok-verify_preamble.field-0 preamble c.verify_preamble.ensures.meets c.in-Ok-Ok-verify_preamble.is c.in-Ok-Ok-verify_preamble.field-0-is in
-    let ready : Ready (question buf) hook hook' hook'' keyblock packed rest preamble c.args.main flash' = record { opened = opened; good = good'; area = ap (λ (m : FlashMedium). area_bytes c.args.main m) (sym looks.medium) } in
-    let ended : Ended (question buf) hook hook' hook'' hook''' keyblock packed rest preamble c.args.main flash flash' flash'' signature len out c.verify_flash_body.result = record {
-      ready = ready;
-      checks = c.verify_flash_body.ensures.meets;
-      looks = looks;
-      inside = λ told. omega (arith, c.requires.main_inside, g.met.F.Flash.told_size c.args.flash.now told);
-      signature_is = c.body_signature.ensures;
-      len_is = c.body_len-body_len.ensures;
-    } in
-    let whole : Ended (question buf) hook hook' hook'' hook''' keyblock packed rest preamble c.args.main flash flash' flash'' signature len out (Ok None) = ended_of (question buf) hook hook' hook'' hook''' keyblock packed rest preamble c.args.main flash flash' flash'' signature len out c.verify_flash_body.result (Ok None) ended (c.in-Ok-None.is ∙ ap Ok c.in-Ok-None.field-0-is) in
-    let version : c.combined_version.result ≡ combined_version packed.version preamble.version = c.combined_version.ensures ∙ ap (λ (n : ℕ). combined_version packed.version n) c.version.ensures in
-    let subkey : Copied preamble.subkey c.pack.result = subst (λ (k : Key). Copied k c.pack.result) c.subkey.ensures (record { algorithm = c.pack.ensures.algorithm; version = c.pack.ensures.version; size = c.pack.ensures.size; bytes = c.pack.ensures.bytes; front = c.pack.ensures.front }) in
-    slot_good question buf (area_bytes c.args.vblock flash.medium) flash flash'' hook hook''' out _ (ended_looks (question buf) hook hook' hook'' hook''' keyblock packed rest preamble c.args.main flash flash' flash'' signature len out (Ok None) whole) (ended_asked (question buf) hook hook' hook'' hook''' keyblock packed rest preamble c.args.main flash flash' flash'' signature len out (Ok None) whole) filled
-    (good_of (question buf) hook hook' hook'' hook''' keyblock packed rest preamble c.args.main flash flash' flash'' signature len out (record { version = c.combined_version.result; body_len = len; subkey = c.pack.result }) whole version refl subkey)
+    let at = goal.at.returns-in-Ok-None-clause-meets g c in
+    let head = read g at.After-verify_keyblock in
+    let step = body_step g at.After-verify_flash_body in
+    let whole = ended g at.After-verify_flash_body (Ok None) head (opened g at.After-verify_preamble (good g at.In-Ok-Ok)) (c.in-Ok-None.is ∙ ap Ok c.in-Ok-None.field-0-is) in
+    let version : c.combined_version.result ≡ combined_version c.pack-key.result.version c.in-Ok-Ok-verify_preamble.preamble.version = c.combined_version.ensures ∙ ap (λ (n : ℕ). combined_version c.pack-key.result.version n) c.version.ensures in
+    let subkey = subst (λ (k : Key). Copied k c.pack.result) c.subkey.ensures (record { algorithm = c.pack.ensures.algorithm; version = c.pack.ensures.version; size = c.pack.ensures.size; bytes = c.pack.ensures.bytes; front = c.pack.ensures.front }) in
+    slot_good _ c.read.new.buf _ _ _ _ _ _ (ended_looks step (Ok None) whole) (ended_asked step (Ok None) whole) head.filled
+    (good_of step (record { version = c.combined_version.result; body_len = c.body_len-body_len.result; subkey = c.pack.result }) whole version refl subkey)
 
 pub returns-in-Ok-Some-clause-meets : goal.returns-in-Ok-Some-clause-meets
 returns-in-Ok-Some-clause-meets g c =
-    let flash = g.F.Flash.state c.args.flash.now in
-    let flash' = g.F.Flash.state c.read.new.self in
-    let hook = g.H.Hook.state c.args.hook.now in
-    let hook' = g.H.Hook.state c.verify_keyblock.new.hook in
-    let buf = c.read.new.buf in
-    let no_error : is_err c.read.result ≡ false = sym c.is_err.ensures.value ∙ c.if-is_err.false in
-    let long : length buf ≡ c.args.vblock.size = omega arith in
-    let looks : Looks flash flash' false = read_looks _ buf flash flash' c.read.result c.read.ensures.meets no_error in
-    let filled : IsTrue flash.medium.told → buf ≡ area_bytes c.args.vblock flash.medium = read_filled c.args.vblock buf flash flash' c.read.result c.read.ensures.meets no_error long in
-    let question : List ℕ → SlotQuestion = λ bytes. record { vblock = bytes; main = area_bytes c.args.main flash.medium; rows = hook.rows; root = c.args.root.now; stored = c.args.stored; rollback = c.args.rollback } in
-    let keyblock = c.in-Ok-Ok.keyblock in
-    let packed = c.pack-key.result in
-    let rest = c.behind-rest.result.now in
-    let good : GoodKeyblock buf c.args.root.now c.args.stored c.args.rollback hook hook' keyblock = good_keyblock buf c.args.root.now c.args.stored c.args.rollback hook hook' c.verify_keyblock.result c.in-Ok-Ok.field-0 keyblock c.verify_keyblock.ensures.meets c.in-Ok-Ok.is c.in-Ok-Ok.field-0-is in
-    let copied : Copied keyblock.data_key packed = subst (λ (k : Key). Copied k packed) c.data_key.ensures (record { algorithm = c.pack-key.ensures.algorithm; version = c.pack-key.ensures.version; size = c.pack-key.ensures.size; bytes = c.pack-key.ensures.bytes; front = c.pack-key.ensures.front }) in
-    let opened : Opened (question buf) hook hook' keyblock packed rest = record { good = good; rows = refl; copied = copied; behind = c.behind-rest.ensures ∙ ap (λ (n : ℕ). drop n buf) c.size.ensures } in
-    let hook'' = g.H.Hook.state c.verify_preamble.new.hook in
-    let flash'' = g.F.Flash.state c.verify_flash_body.new.flash in
-    let hook''' = g.H.Hook.state c.verify_flash_body.new.hook in
-    let preamble = c.in-Ok-Ok-verify_preamble.preamble in
-    let signature = c.body_signature.result.now in
-    let len = c.body_len-body_len.result in
-    let out = c.verify_flash_body.new.body.items in
-    let good' : GoodPreamble rest packed c.args.stored c.args.rollback hook' hook'' preamble = good_preamble rest packed c.args.stored c.args.rollback hook' hook'' c.verify_preamble.result c.in-Ok-Ok-verify_preamble.field-0 preamble c.verify_preamble.ensures.meets c.in-Ok-Ok-verify_preamble.is c.in-Ok-Ok-verify_preamble.field-0-is in
-    let ready : Ready (question buf) hook hook' hook'' keyblock packed rest preamble c.args.main flash' = record { opened = opened; good = good'; area = ap (λ (m : FlashMedium). area_bytes c.args.main m) (sym looks.medium) } in
-    let ended : Ended (question buf) hook hook' hook'' hook''' keyblock packed rest preamble c.args.main flash flash' flash'' signature len out c.verify_flash_body.result = record {
-      ready = ready;
-      checks = c.verify_flash_body.ensures.meets;
-      looks = looks;
-      inside = λ told. omega (arith, c.requires.main_inside, g.met.F.Flash.told_size c.args.flash.now told);
-      signature_is = c.body_signature.ensures;
-      len_is = c.body_len-body_len.ensures;
-    } in
-    let whole : Ended (question buf) hook hook' hook'' hook''' keyblock packed rest preamble c.args.main flash flash' flash'' signature len out (Ok (Some c.in-Ok-Some.fault)) = ended_of (question buf) hook hook' hook'' hook''' keyblock packed rest preamble c.args.main flash flash' flash'' signature len out c.verify_flash_body.result (Ok (Some c.in-Ok-Some.fault)) ended (c.in-Ok-Some.is ∙ ap Ok c.in-Ok-Some.field-0-is) in
-    slot_faulted question buf (area_bytes c.args.vblock flash.medium) flash flash'' hook hook''' out _ (ended_looks (question buf) hook hook' hook'' hook''' keyblock packed rest preamble c.args.main flash flash' flash'' signature len out (Ok (Some c.in-Ok-Some.fault)) whole) (ended_asked (question buf) hook hook' hook'' hook''' keyblock packed rest preamble c.args.main flash flash' flash'' signature len out (Ok (Some c.in-Ok-Some.fault)) whole) filled
-    (body_shown (question buf) hook hook' hook'' hook''' keyblock packed rest preamble c.args.main flash flash' flash'' signature len out c.in-Ok-Some.fault whole)
+    let at = goal.at.returns-in-Ok-Some-clause-meets g c in
+    let head = read g at.After-verify_keyblock in
+    let step = body_step g at.After-verify_flash_body in
+    let found : Result (Option BodyFault) Failure = Ok (Some c.in-Ok-Some.fault) in
+    let whole = ended g at.After-verify_flash_body found head (opened g at.After-verify_preamble (good g at.In-Ok-Ok)) (c.in-Ok-Some.is ∙ ap Ok c.in-Ok-Some.field-0-is) in
+    slot_faulted _ c.read.new.buf _ _ _ _ _ _ (ended_looks step found whole) (ended_asked step found whole) head.filled (body_shown step c.in-Ok-Some.fault whole)
 
 pub returns-in-Err-verify_flash_body-clause-meets : goal.returns-in-Err-verify_flash_body-clause-meets
 returns-in-Err-verify_flash_body-clause-meets g c =
-    let flash = g.F.Flash.state c.args.flash.now in
-    let flash' = g.F.Flash.state c.read.new.self in
-    let hook = g.H.Hook.state c.args.hook.now in
-    let hook' = g.H.Hook.state c.verify_keyblock.new.hook in
-    let buf = c.read.new.buf in
-    let no_error : is_err c.read.result ≡ false = sym c.is_err.ensures.value ∙ c.if-is_err.false in
-    let long : length buf ≡ c.args.vblock.size = omega arith in
-    let looks : Looks flash flash' false = read_looks _ buf flash flash' c.read.result c.read.ensures.meets no_error in
-    let filled : IsTrue flash.medium.told → buf ≡ area_bytes c.args.vblock flash.medium = read_filled c.args.vblock buf flash flash' c.read.result c.read.ensures.meets no_error long in
-    let question : List ℕ → SlotQuestion = λ bytes. record { vblock = bytes; main = area_bytes c.args.main flash.medium; rows = hook.rows; root = c.args.root.now; stored = c.args.stored; rollback = c.args.rollback } in
-    let keyblock = c.in-Ok-Ok.keyblock in
-    let packed = c.pack-key.result in
-    let rest = c.behind-rest.result.now in
-    let good : GoodKeyblock buf c.args.root.now c.args.stored c.args.rollback hook hook' keyblock = good_keyblock buf c.args.root.now c.args.stored c.args.rollback hook hook' c.verify_keyblock.result c.in-Ok-Ok.field-0 keyblock c.verify_keyblock.ensures.meets c.in-Ok-Ok.is c.in-Ok-Ok.field-0-is in
-    let copied : Copied keyblock.data_key packed = subst (λ (k : Key). Copied k packed) c.data_key.ensures (record { algorithm = c.pack-key.ensures.algorithm; version = c.pack-key.ensures.version; size = c.pack-key.ensures.size; bytes = c.pack-key.ensures.bytes; front = c.pack-key.ensures.front }) in
-    let opened : Opened (question buf) hook hook' keyblock packed rest = record { good = good; rows = refl; copied = copied; behind = c.behind-rest.ensures ∙ ap (λ (n : ℕ). drop n buf) c.size.ensures } in
-    let hook'' = g.H.Hook.state c.verify_preamble.new.hook in
-    let flash'' = g.F.Flash.state c.verify_flash_body.new.flash in
-    let hook''' = g.H.Hook.state c.verify_flash_body.new.hook in
-    let preamble = c.in-Ok-Ok-verify_preamble.preamble in
-    let signature = c.body_signature.result.now in
-    let len = c.body_len-body_len.result in
-    let out = c.verify_flash_body.new.body.items in
-    let good' : GoodPreamble rest packed c.args.stored c.args.rollback hook' hook'' preamble = good_preamble rest packed c.args.stored c.args.rollback hook' hook'' c.verify_preamble.result c.in-Ok-Ok-verify_preamble.field-0 preamble c.verify_preamble.ensures.meets c.in-Ok-Ok-verify_preamble.is c.in-Ok-Ok-verify_preamble.field-0-is in
-    let ready : Ready (question buf) hook hook' hook'' keyblock packed rest preamble c.args.main flash' = record { opened = opened; good = good'; area = ap (λ (m : FlashMedium). area_bytes c.args.main m) (sym looks.medium) } in
-    let ended : Ended (question buf) hook hook' hook'' hook''' keyblock packed rest preamble c.args.main flash flash' flash'' signature len out c.verify_flash_body.result = record {
-      ready = ready;
-      checks = c.verify_flash_body.ensures.meets;
-      looks = looks;
-      inside = λ told. omega (arith, c.requires.main_inside, g.met.F.Flash.told_size c.args.flash.now told);
-      signature_is = c.body_signature.ensures;
-      len_is = c.body_len-body_len.ensures;
-    } in
-    let failure = c.in-Err-verify_flash_body.failure in
-    let whole : Ended (question buf) hook hook' hook'' hook''' keyblock packed rest preamble c.args.main flash flash' flash'' signature len out (Err failure) = ended_of (question buf) hook hook' hook'' hook''' keyblock packed rest preamble c.args.main flash flash' flash'' signature len out c.verify_flash_body.result (Err failure) ended c.in-Err-verify_flash_body.is in
-    slot_failed _ flash flash'' hook hook''' out failure (ended_looks (question buf) hook hook' hook'' hook''' keyblock packed rest preamble c.args.main flash flash' flash'' signature len out (Err failure) whole) (ended_asked (question buf) hook hook' hook'' hook''' keyblock packed rest preamble c.args.main flash flash' flash'' signature len out (Err failure) whole)
+    let at = goal.at.returns-in-Err-verify_flash_body-clause-meets g c in
+    let step = body_step g at.After-verify_flash_body in
+    let failed : Result (Option BodyFault) Failure = Err c.in-Err-verify_flash_body.failure in
+    let whole = ended g at.After-verify_flash_body failed (read g at.After-verify_keyblock) (opened g at.After-verify_preamble (good g at.In-Ok-Ok)) c.in-Err-verify_flash_body.is in
+    slot_failed _ _ _ _ _ _ c.in-Err-verify_flash_body.failure (ended_looks step failed whole) (ended_asked step failed whole)

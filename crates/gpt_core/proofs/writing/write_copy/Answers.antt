@@ -1,6 +1,7 @@
 -- Where the second write or the flush failed: what was left, from what each call did.
 use Rattle.std.proofs.Common.{◌≡◌, ℕ, ◌+◌, ◌*◌, ◌≤◌, List, [], ◌++◌, length, IsTrue, refl, sym, ap, ◌∙◌, subst, arith, append-nil}
 use Rattle.std.proofs.lemmas.List.Elements.{All-nil, All-append}
+use Rattle.std.proofs.lemmas.Result.{err_from_is_err_and}
 use Rattle.board_core.specs.declared.torn.Torn.{Torn}
 use Rattle.board_core.specs.Disk.{LeftDiskTorn, IsSectorOf, overlaid, write_records}
 use Rattle.board_core.specs.OrderedWrites.{with_range}
@@ -11,16 +12,17 @@ use Rattle.board_core.proofs.FuseDiskLemmas.{settled_writes}
 use Rattle.board_core.proofs.WriteRecords.{made_within, over_range, same_records, sectors_of-write}
 use Rattle.gpt_core.proofs.writing.write_copy.Goals as goal
 
-pub returns-in_default-write : goal.returns-in_default-write
-returns-in_default-write g c =
+pub returns-in_err-write-2 : goal.returns-in_err-write-2
+returns-in_err-write-2 g c =
     let old = (g.D.Disk.state c.args.disk.now).medium in
     let mid = (g.D.Disk.state c.write.new.self).medium in
     let new = (g.D.Disk.state c.write-2.new.self).medium in
-    let one = c.in-Ok.ensures.meets in
-    let meets = c.in_default-write.ensures.meets in
+    let one = c.in_ok-write.ensures.meets in
+    let meets = c.in_err-write-2.ensures.meets in
     let first = write_records c.args.first c.args.one.now old in
     let size = old.sectors * 512 in
-    record {
+    let error = err_from_is_err_and c.from_residual-in_err-write-2.result c.from_residual-in_err-write-2.ensures.1 in
+    rw error.1 (record {
       counters = made_within _ _ 2 3 (omega arith) (made_then _ _ _ 1 1 _ one.counters.made meets.counters.made);
       broke = λ failed. omega (arith, meets.counters.broke failed, one.counters.made.none_failed refl);
       sectors = meets.sectors ∙ one.sectors;
@@ -38,21 +40,22 @@ returns-in_default-write g c =
           (sectors_of-write c.args.first size c.args.one.now old c.requires.whole_one in_one) (sectors_of-write c.args.second size c.args.two.now mid c.requires.whole_two in_two)
           (over_range c.args.first c.args.one.now old mid c.requires.whole_one (omega arith) (one.bytes told)) (one.torn told) pending (meets.err told') in
           (subst (λ (l : List Torn). LeftDiskTorn [] (first ++ l) old new) (same_records c.args.second c.args.two.now mid (with_range c.args.first c.args.one.now old) (one.bytes told)) run);
-    }
+    })
 
-pub returns-in_default-flush : goal.returns-in_default-flush
-returns-in_default-flush g c =
+pub returns-in_err-flush : goal.returns-in_err-flush
+returns-in_err-flush g c =
     let old = (g.D.Disk.state c.args.disk.now).medium in
     let mid = (g.D.Disk.state c.write.new.self).medium in
     let both = (g.D.Disk.state c.write-2.new.self).medium in
     let new = (g.D.Disk.state c.flush.new.self).medium in
-    let one = c.in-Ok.ensures.meets in
-    let two = c.in-Ok-write.ensures.meets in
-    let meets = c.in_default-flush.ensures.meets in
+    let one = c.in_ok-write.ensures.meets in
+    let two = c.in_ok-write-2.ensures.meets in
+    let meets = c.in_err-flush.ensures.meets in
     let first = write_records c.args.first c.args.one.now old in
     let second = write_records c.args.second c.args.two.now (with_range c.args.first c.args.one.now old) in
     let size = old.sectors * 512 in
-    record {
+    let error = err_from_is_err_and c.from_residual-in_err-flush.result c.from_residual-in_err-flush.ensures.1 in
+    rw error.1 (record {
       counters = made_then _ _ _ 2 1 _ (made_then _ _ _ 1 1 _ one.counters.made two.counters.made) meets.counters.made;
       broke = λ failed. omega (arith, meets.counters.broke failed, two.counters.made.none_failed refl, one.counters.made.none_failed refl);
       sectors = meets.sectors ∙ two.sectors ∙ one.sectors;
@@ -79,4 +82,4 @@ returns-in_default-flush g c =
           (All-append (IsSectorOf size) first second (sectors_of-write c.args.first size c.args.one.now old c.requires.whole_one in_one) (sectors_of-write c.args.second size c.args.two.now (with_range c.args.first c.args.one.now old) c.requires.whole_two in_two))
           (All-nil (IsSectorOf size)) bytes (two.torn told' ∙ one.torn told) pending (meets.err told'') in
           (subst (λ (l : List Torn). LeftDiskTorn [] l old new) (append-nil (first ++ second)) run);
-    }
+    })

@@ -1,72 +1,78 @@
 -- At each exit the calls that were made changed nothing, and what they found decides the answer.
-use Rattle.std.proofs.Common.{◌≡◌, ◌+◌, ◌-◌, ◌≤◌, ◌∙◌, ℕ, List, sym, ap, subst, length, drop, arith}
+use Rattle.std.proofs.Common.{◌≡◌, ◌+◌, ◌-◌, ◌≤◌, ◌∙◌, ℕ, Ok, Err, List, sym, ap, subst, length, drop, arith}
 use Rattle.std.proofs.lemmas.List.{length-drop}
+use Rattle.board_core.specs.declared.device.Failed.{Failed}
 use Rattle.key_core.specs.Parts.{Key}
 use Rattle.chain_core.specs.Tables.{combined_version}
 use Rattle.chain_core.proofs.SlotAnswers.{Copied}
-use Rattle.kernel_core.proofs.HeadAnswers.{GoodKeyblock, good_keyblock, usable_fits, Opened, preamble_shown, GoodPreamble, good_preamble, MadeOf, head_good}
+use Rattle.kernel_core.specs.HeadChecks.{ChecksKernelPreamble}
+use Rattle.kernel_core.proofs.HeadAnswers.{GoodKeyblock, good_keyblock, usable_fits, HeadStep, Opened, preamble_answer, preamble_shown, head_good}
+use Rattle.kernel_core.proofs.head.verify_head.Given.{Over}
 use Rattle.kernel_core.proofs.head.verify_head.Goals as goal
+use Rattle.kernel_core.proofs.head.verify_head.Goals.{In-Ok-Ok, After-verify_kernel_preamble, In-Ok-Ok-verify_kernel_preamble}
+
+-- ---- what the calls found, as far as each
+
+good : (g : Over) (c : In-Ok-Ok g) → GoodKeyblock c.args.vblock.now c.args.key.now c.args.rules.now (g.H.Hook.state c.args.hook.now) (g.H.Hook.state c.verify_kernel_keyblock.new.hook) c.in-Ok-Ok.keyblock
+good g c = good_keyblock _ _ _ _ _ _ _ _ c.verify_kernel_keyblock.ensures.meets c.in-Ok-Ok.is c.in-Ok-Ok.field-0-is
+
+abbrev step : (g : Over) → After-verify_kernel_preamble g → HeadStep
+step g c = record {
+  vblock = c.args.vblock.now;
+  key = c.args.key.now;
+  rules = c.args.rules.now;
+  checked = c.versions_are_checked-checked.result;
+  hook = g.H.Hook.state c.args.hook.now;
+  hook' = g.H.Hook.state c.verify_kernel_keyblock.new.hook;
+  keyblock = c.in-Ok-Ok.keyblock;
+  packed = c.pack-data_key.result;
+  rest = c.behind-rest.result.now;
+}
+
+opened : (g : Over) (c : After-verify_kernel_preamble g)
+    → GoodKeyblock c.args.vblock.now c.args.key.now c.args.rules.now (g.H.Hook.state c.args.hook.now) (g.H.Hook.state c.verify_kernel_keyblock.new.hook) c.in-Ok-Ok.keyblock → Opened (step g c)
+opened g c good = record {
+  good = good;
+  checked = c.versions_are_checked-checked.ensures;
+  copied = subst (λ (k : Key). Copied k c.pack-data_key.result) c.data_key.ensures (record { algorithm = c.pack-data_key.ensures.algorithm; version = c.pack-data_key.ensures.version; size = c.pack-data_key.ensures.size; bytes = c.pack-data_key.ensures.bytes; front = c.pack-data_key.ensures.front });
+  behind = c.behind-rest.ensures ∙ ap (λ (n : ℕ). drop n c.args.vblock.now) c.size.ensures;
+}
+
+found : (g : Over) (c : In-Ok-Ok-verify_kernel_preamble g)
+    → ChecksKernelPreamble {E = Failed} c.behind-rest.result.now c.pack-data_key.result c.args.rules.now.stored c.versions_are_checked-checked.result (g.H.Hook.state c.verify_kernel_keyblock.new.hook) (g.H.Hook.state c.verify_kernel_preamble.new.hook) (Ok (Ok c.in-Ok-Ok-verify_kernel_preamble.preamble))
+found g c = preamble_answer _ _ _ _ _ _ _ _ c.verify_kernel_preamble.ensures.meets (c.in-Ok-Ok-verify_kernel_preamble.is ∙ ap Ok c.in-Ok-Ok-verify_kernel_preamble.field-0-is)
+
+-- ---- goals
 
 pub verify_kernel_preamble-requires-clause-size : goal.verify_kernel_preamble-requires-clause-size
 verify_kernel_preamble-requires-clause-size g c =
-    let hook = g.H.Hook.state c.args.hook.now in
-    let hook' = g.H.Hook.state c.verify_kernel_keyblock.new.hook in
-    let keyblock = c.in-Ok-Ok.keyblock in
-    let good : GoodKeyblock c.args.vblock.now c.args.key.now c.args.rules.now hook hook' keyblock = good_keyblock c.args.vblock.now c.args.key.now c.args.rules.now hook hook' c.verify_kernel_keyblock.result c.in-Ok-Ok.field-0 keyblock c.verify_kernel_keyblock.ensures.meets c.in-Ok-Ok.is c.in-Ok-Ok.field-0-is in
-    let size : c.pack-data_key.result.size ≡ length keyblock.data_key.bytes = c.pack-data_key.ensures.size ∙ ap (λ (k : Key). length k.bytes) c.data_key.ensures in
-    let most : length keyblock.data_key.bytes ≤ 2056 = usable_fits keyblock.data_key good.read.usable in
+    let most = usable_fits _ (good g (goal.at.verify_kernel_preamble-requires-clause-size g c).In-Ok-Ok).read.usable in
+    let size = c.pack-data_key.ensures.size ∙ ap (λ (k : Key). length k.bytes) c.data_key.ensures in
     omega (arith, size, most)
 
 pub returns-in-Ok-Err-verify_kernel_preamble : goal.returns-in-Ok-Err-verify_kernel_preamble
 returns-in-Ok-Err-verify_kernel_preamble g c =
-    let hook = g.H.Hook.state c.args.hook.now in
-    let hook' = g.H.Hook.state c.verify_kernel_keyblock.new.hook in
-    let hook'' = g.H.Hook.state c.verify_kernel_preamble.new.hook in
-    let keyblock = c.in-Ok-Ok.keyblock in
-    let packed = c.pack-data_key.result in
-    let rest = c.behind-rest.result.now in
-    let good : GoodKeyblock c.args.vblock.now c.args.key.now c.args.rules.now hook hook' keyblock = good_keyblock c.args.vblock.now c.args.key.now c.args.rules.now hook hook' c.verify_kernel_keyblock.result c.in-Ok-Ok.field-0 keyblock c.verify_kernel_keyblock.ensures.meets c.in-Ok-Ok.is c.in-Ok-Ok.field-0-is in
-    let copied : Copied keyblock.data_key packed = subst (λ (k : Key). Copied k packed) c.data_key.ensures (record { algorithm = c.pack-data_key.ensures.algorithm; version = c.pack-data_key.ensures.version; size = c.pack-data_key.ensures.size; bytes = c.pack-data_key.ensures.bytes; front = c.pack-data_key.ensures.front }) in
-    let opened : Opened c.args.vblock.now c.args.key.now c.args.rules.now hook hook' keyblock packed rest = record { good = good; copied = copied; behind = c.behind-rest.ensures ∙ ap (λ (n : ℕ). drop n c.args.vblock.now) c.size.ensures } in
-    record {
-      meets = preamble_shown c.args.vblock.now c.args.key.now c.args.rules.now c.versions_are_checked-checked.result hook hook' hook'' keyblock packed rest c.verify_kernel_preamble.result c.in-Ok-Err-verify_kernel_preamble.field-0 c.in-Ok-Err-verify_kernel_preamble.fault c.versions_are_checked-checked.ensures opened c.verify_kernel_preamble.ensures.meets c.in-Ok-Err-verify_kernel_preamble.is c.in-Ok-Err-verify_kernel_preamble.field-0-is;
-    }
+    let at = goal.at.returns-in-Ok-Err-verify_kernel_preamble g c in
+    let found = preamble_answer _ _ _ _ _ _ _ (Ok (Err c.in-Ok-Err-verify_kernel_preamble.fault)) c.verify_kernel_preamble.ensures.meets (c.in-Ok-Err-verify_kernel_preamble.is ∙ ap Ok c.in-Ok-Err-verify_kernel_preamble.field-0-is) in
+    record { meets = preamble_shown (step g at.After-verify_kernel_preamble) _ c.in-Ok-Err-verify_kernel_preamble.fault (opened g at.After-verify_kernel_preamble (good g at.In-Ok-Ok)) found }
 
 pub overflow_add-result : goal.overflow_add-result
 overflow_add-result g c =
-    let hook = g.H.Hook.state c.args.hook.now in
-    let hook' = g.H.Hook.state c.verify_kernel_keyblock.new.hook in
-    let hook'' = g.H.Hook.state c.verify_kernel_preamble.new.hook in
-    let keyblock = c.in-Ok-Ok.keyblock in
-    let preamble = c.in-Ok-Ok-verify_kernel_preamble.preamble in
-    let packed = c.pack-data_key.result in
-    let rest = c.behind-rest.result.now in
-    let good : GoodKeyblock c.args.vblock.now c.args.key.now c.args.rules.now hook hook' keyblock = good_keyblock c.args.vblock.now c.args.key.now c.args.rules.now hook hook' c.verify_kernel_keyblock.result c.in-Ok-Ok.field-0 keyblock c.verify_kernel_keyblock.ensures.meets c.in-Ok-Ok.is c.in-Ok-Ok.field-0-is in
-    let good' : GoodPreamble rest packed c.args.rules.now.stored c.versions_are_checked-checked.result hook' hook'' preamble = good_preamble rest packed c.args.rules.now.stored c.versions_are_checked-checked.result hook' hook'' c.verify_kernel_preamble.result c.in-Ok-Ok-verify_kernel_preamble.field-0 preamble c.verify_kernel_preamble.ensures.meets c.in-Ok-Ok-verify_kernel_preamble.is c.in-Ok-Ok-verify_kernel_preamble.field-0-is in
-    let long : length rest ≡ length c.args.vblock.now - c.size.result = ap (λ (xs : List ℕ). length xs) c.behind-rest.ensures ∙ length-drop c.size.result c.args.vblock.now in
-    let first : c.size-2.result ≤ length c.args.vblock.now = subst (λ (n : ℕ). n ≤ length c.args.vblock.now) (sym c.size-2.ensures) good.read.whole in
-    let second : c.size-3.result ≤ length rest = subst (λ (n : ℕ). n ≤ length rest) (sym c.size-3.ensures) good'.fits.whole in
+    let at = goal.at.overflow_add-result g c in
+    let long : length c.behind-rest.result.now ≡ length c.args.vblock.now - c.size.result = ap (λ (xs : List ℕ). length xs) c.behind-rest.ensures ∙ length-drop c.size.result c.args.vblock.now in
+    let first : c.size-2.result ≤ length c.args.vblock.now = subst (λ (n : ℕ). n ≤ length c.args.vblock.now) (sym c.size-2.ensures) (good g at.In-Ok-Ok).read.whole in
+    let second : c.size-3.result ≤ length c.behind-rest.result.now = subst (λ (n : ℕ). n ≤ length c.behind-rest.result.now) (sym c.size-3.ensures) (found g at.In-Ok-Ok-verify_kernel_preamble).fits.whole in
     omega (arith, long, first, second, c.requires)
 
 pub returns : goal.returns
 returns g c =
-    let hook = g.H.Hook.state c.args.hook.now in
-    let hook' = g.H.Hook.state c.verify_kernel_keyblock.new.hook in
-    let hook'' = g.H.Hook.state c.verify_kernel_preamble.new.hook in
-    let keyblock = c.in-Ok-Ok.keyblock in
-    let preamble = c.in-Ok-Ok-verify_kernel_preamble.preamble in
-    let packed = c.pack-data_key.result in
-    let rest = c.behind-rest.result.now in
-    let good : GoodKeyblock c.args.vblock.now c.args.key.now c.args.rules.now hook hook' keyblock = good_keyblock c.args.vblock.now c.args.key.now c.args.rules.now hook hook' c.verify_kernel_keyblock.result c.in-Ok-Ok.field-0 keyblock c.verify_kernel_keyblock.ensures.meets c.in-Ok-Ok.is c.in-Ok-Ok.field-0-is in
-    let good' : GoodPreamble rest packed c.args.rules.now.stored c.versions_are_checked-checked.result hook' hook'' preamble = good_preamble rest packed c.args.rules.now.stored c.versions_are_checked-checked.result hook' hook'' c.verify_kernel_preamble.result c.in-Ok-Ok-verify_kernel_preamble.field-0 preamble c.verify_kernel_preamble.ensures.meets c.in-Ok-Ok-verify_kernel_preamble.is c.in-Ok-Ok-verify_kernel_preamble.field-0-is in
-    let copied : Copied keyblock.data_key packed = subst (λ (k : Key). Copied k packed) c.data_key.ensures (record { algorithm = c.pack-data_key.ensures.algorithm; version = c.pack-data_key.ensures.version; size = c.pack-data_key.ensures.size; bytes = c.pack-data_key.ensures.bytes; front = c.pack-data_key.ensures.front }) in
-    let opened : Opened c.args.vblock.now c.args.key.now c.args.rules.now hook hook' keyblock packed rest = record { good = good; copied = copied; behind = c.behind-rest.ensures ∙ ap (λ (n : ℕ). drop n c.args.vblock.now) c.size.ensures } in
-    let made : MadeOf packed keyblock preamble (record { version = c.combined_version.result; load_address = c.load_address.result; body_at = c.size-2.result + c.size-3.result; body_len = c.body_len.result }) = record {
-      version = c.combined_version.ensures ∙ ap (λ (n : ℕ). combined_version packed.version n) c.version.ensures;
-      load_address = c.load_address.ensures;
-      body_at = ap (λ (n : ℕ). n + c.size-3.result) c.size-2.ensures ∙ ap (λ (n : ℕ). keyblock.size + n) c.size-3.ensures;
-      body_len = c.body_len.ensures;
-    } in
+    let at = goal.at.returns g c in
     record {
-      meets = head_good c.args.vblock.now c.args.key.now c.args.rules.now c.versions_are_checked-checked.result hook hook' hook'' keyblock packed rest preamble (record { version = c.combined_version.result; load_address = c.load_address.result; body_at = c.size-2.result + c.size-3.result; body_len = c.body_len.result }) c.versions_are_checked-checked.ensures opened good' made;
+      meets = head_good (step g at.After-verify_kernel_preamble) _ c.in-Ok-Ok-verify_kernel_preamble.preamble _ (opened g at.After-verify_kernel_preamble (good g at.In-Ok-Ok)) (record {
+        preamble_good = found g at.In-Ok-Ok-verify_kernel_preamble;
+        version = c.combined_version.ensures ∙ ap (λ (n : ℕ). combined_version c.pack-data_key.result.version n) c.version.ensures;
+        load_address = c.load_address.ensures;
+        body_at = ap (λ (n : ℕ). n + c.size-3.result) c.size-2.ensures ∙ ap (λ (n : ℕ). c.in-Ok-Ok.keyblock.size + n) c.size-3.ensures;
+        body_len = c.body_len.ensures;
+      });
     }

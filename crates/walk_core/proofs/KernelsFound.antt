@@ -79,6 +79,7 @@ pub no_good_head : (d : Drive) (first sectors : ℕ) (disk' : DiskState) (hook' 
     → ExaminesHead d first sectors disk' hook' vblock (Ok None) → ExaminesKernel d first sectors disk' hook' body (Ok None)
 no_good_head d first sectors disk' hook' vblock body exam = record {
   looks = looks_told 128 (128 + body_sectors d first sectors) d.disk disk' false (λ t. omega arith) exam.looks;
+  head_alone = λ told told' bad. exam.looks.no_more told;
   asked = exam.asked;
   kernel = λ told told'. sym (in_bad d first sectors (no_head (has_good_head d first sectors) (not (is_some (body_fault d first sectors)))
       (none_bad (has_good_head d first sectors) (head_ok (asked_of_head d first)) (exam.head told told'))));
@@ -89,6 +90,7 @@ pub head_failed : (d : Drive) (first sectors : ℕ) (disk' : DiskState) (hook' :
     → ExaminesHead d first sectors disk' hook' vblock (Err failure) → ExaminesKernel d first sectors disk' hook' body (Err failure)
 head_failed d first sectors disk' hook' vblock body failure exam = record {
   looks = looks_told 128 (128 + body_sectors d first sectors) d.disk disk' (store_failed {T = Option HeadOk} (Err failure)) (λ t. omega arith) exam.looks;
+  head_alone = λ told told' bad. exam.looks.no_more told;
   asked = exam.asked;
   kernel = λ told told'. tt;
   found = tt;
@@ -113,6 +115,7 @@ pub body_failed : (d : Drive) (first sectors : ℕ) (disk' disk'' : DiskState) (
     → ExaminesKernel d first sectors disk'' hook'' body (Err failure)
 body_failed d first sectors disk' disk'' hook' hook'' vblock body head failure exam verifies = record {
   looks = both_looks d first sectors disk' disk'' hook' hook'' vblock body head (Err failure) exam verifies;
+  head_alone = λ told told' bad. absurd (false≢true (sym bad ∙ exam.found.good told told'));
   asked = both_asked d first sectors disk' disk'' hook' hook'' vblock body head (Err failure) exam verifies;
   kernel = λ told told'. tt;
   found = tt;
@@ -132,6 +135,7 @@ pub bad_body : (d : Drive) (first sectors : ℕ) (disk' disk'' : DiskState) (hoo
     → ExaminesKernel d first sectors disk'' hook'' body (Ok None)
 bad_body d first sectors disk' disk'' hook' hook'' vblock body head fault exam verifies = record {
   looks = both_looks d first sectors disk' disk'' hook' hook'' vblock body head (Ok (Some fault)) exam verifies;
+  head_alone = λ told told' bad. absurd (false≢true (sym bad ∙ exam.found.good told told'));
   asked = both_asked d first sectors disk' disk'' hook' hook'' vblock body head (Ok (Some fault)) exam verifies;
   kernel = λ told told'. sym (in_bad d first sectors (no_body (has_good_head d first sectors) (body_fault d first sectors) fault (exam.found.good told told')
       (found_fault d first sectors disk' disk'' hook' hook'' vblock body head (Some fault) exam verifies told told')));
@@ -153,12 +157,14 @@ pub good_body : (d : Drive) (first sectors : ℕ) (disk' disk'' : DiskState) (ho
     → ExaminesKernel d first sectors disk'' hook'' body (Ok (Some head))
 good_body d first sectors disk' disk'' hook' hook'' vblock body head exam verifies = record {
   looks = both_looks d first sectors disk' disk'' hook' hook'' vblock body head (Ok None) exam verifies;
+  head_alone = λ told told' bad. absurd (false≢true (sym bad ∙ exam.found.good told told'));
   asked = both_asked d first sectors disk' disk'' hook' hook'' vblock body head (Ok None) exam verifies;
   kernel = λ told told'. ap Some (exam.found.ok told)
       ∙ sym (in_good d first sectors (both (has_good_head d first sectors) (body_fault d first sectors) (exam.found.good told told')
       (found_fault d first sectors disk' disk'' hook' hook'' vblock body head None exam verifies told told')));
   found = record {
     long = exam.found.long;
+    ok = exam.found.ok;
     many = verifies.many;
     body = λ told. verifies.body (exam.looks.told ∙ told) ∙ ap (λ (b : List ℕ). kernel_body head first sectors (record d.disk.medium { bytes = b })) (exam.looks.bytes told);
     chain = exam.found.chain;

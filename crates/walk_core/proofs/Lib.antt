@@ -1,3 +1,13 @@
 mod Ranks
 mod HeadsFound
 mod KernelsFound
+mod OrderFacts
+mod SameDrives
+mod FirstSteps
+mod LaterSteps
+mod Partitions
+mod Marks
+mod WalkSums
+mod WalkChosen
+mod WalkDone
+pub mod Choices

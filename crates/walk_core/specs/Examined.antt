@@ -1,5 +1,5 @@
 -- What the calls that examine the kernel of one partition do.
-use Rattle.std.specs.Prelude.{◌≡◌, ℕ, ◌+◌, ◌≤◌, true, IsTrue, List, length, Option, Result, IfOk, IfSome}
+use Rattle.std.specs.Prelude.{◌≡◌, ℕ, ◌+◌, ◌≤◌, true, false, IsTrue, List, length, Option, Result, IfOk, IfSome}
 use Rattle.board_core.specs.Disk.{DiskState}
 use Rattle.board_core.specs.Hook.{HookState}
 use Rattle.chain_core.specs.Accepted.{Accepts, Asked}
@@ -43,6 +43,8 @@ body_sectors d first sectors = read_sectors sectors (head_ok (asked_of_head d fi
 pub record FoundKernel (d : Drive) (first sectors : ℕ) (handed_out : List ℕ) (head : HeadOk) : Type 0 where
   -- the partition is long enough for a head
   pub long : 128 ≤ sectors
+  -- version, load address, place and length of the body are those that the disk tells
+  pub ok : IsTrue d.disk.medium.told → head ≡ head_ok (asked_of_head d first)
   -- the body has the length that the head says
   pub many : length handed_out ≡ head.body_len
   -- and is the one in the partition
@@ -58,6 +60,9 @@ pub record ExaminesKernel (d : Drive) (first sectors : ℕ) (disk' : DiskState) 
   -- a disk or a hook that failed counted it once, and they hold what they held; at most the 128 sectors of the head and
   -- those that the body touches past them were read
   pub looks : LooksAtDisk (128 + body_sectors d first sectors) d.disk disk' (store_failed result)
+  -- none of the body where the head is not good
+  pub head_alone : IsTrue d.disk.medium.told → IsTrue d.hook.told → has_good_head d first sectors ≡ false
+      → disk'.medium.sectors_read ≤ d.disk.medium.sectors_read + 128
   pub asked : Asked d.hook hook' (hook_failed result)
   -- the answer is the head where the kernel is good
   pub kernel : IsTrue d.disk.medium.told → IsTrue d.hook.told → IfOk result (λ head. head ≡ kernel_in d first sectors)

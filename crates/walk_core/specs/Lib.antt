@@ -1,5 +1,11 @@
--- The attributes of a kernel's entry, which entries are candidates and how they are ordered, and when a kernel is good.
+-- The attributes of a kernel's entry, which entries are candidates and how they are ordered, when a kernel is good, which is
+-- chosen, and what becomes of each entry.
 pub mod Attributes
 pub mod Candidates
 pub mod Kernels
 pub mod Examined
+pub mod Chosen
+pub mod Choice
+pub mod Fates
+pub mod Walks
+pub mod Steps

@@ -46,7 +46,7 @@ pub fn examine_head<D: Disk, H: Hook>(
 
 /// Examines the kernel in the partition of `sectors` sectors from `first`, and answers its head where it is good: where
 /// its head is good, and the body table finds no fault. Then the room hands out its body. Disk and hook keep their content;
-/// at most 128 sectors are read, and those that the body touches past them. No memory is taken.
+/// at most 128 sectors are read, and where its head is good those that the body touches past them. No memory is taken.
 ///
 /// `Failure`: the disk or the hook failed, and its count of faults rose; then nothing else was decided.
 pub fn examine_kernel<D: Disk, H: Hook>(

@@ -1,0 +1,5 @@
+pub mod CallsRead
+pub mod Fronts
+pub mod Openings
+pub mod Telling
+pub mod Repairing

@@ -1,0 +1,19 @@
+//! The commands on partition tables: how their words are read, and what they do to a disk.
+//!
+//! - `call` is a command with its values, and `reading` reads one from the words of a command line.
+//! - `opening` reads the table of a disk, `lines` makes the lines of its text, and `putting` puts them into a sink.
+//! - `working` works a command, and `fault` says why it did not.
+#![tactic(auto)]
+
+mod call;
+mod fault;
+mod lines;
+mod opening;
+mod putting;
+mod reading;
+mod working;
+
+pub use call::{CgptCall, CgptCommand, CgptDrive, Label, WordFault};
+pub use fault::CgptFault;
+pub use reading::words;
+pub use working::cgpt;

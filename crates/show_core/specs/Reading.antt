@@ -14,7 +14,7 @@ use Rattle.rom_core.specs.Map.{areas_in, standing_map, map_lines}
 use Rattle.rom_core.specs.Reading.{map_question}
 use Rattle.show_core.specs.declared.facts.FlashFacts.{FlashFacts}
 use Rattle.show_core.specs.declared.facts.GbbFacts.{GbbFacts}
-use Rattle.show_core.specs.declared.facts.KeyblockFacts.{KeyblockFacts}
+use Rattle.show_core.specs.declared.facts.SlotFacts.{SlotFacts}
 use Rattle.show_core.specs.Facts.{gbb_facts, slot_facts, flash_facts}
 
 -- The facts of the GBB in an area are read.
@@ -24,7 +24,7 @@ pub record ReadsGbbFacts (area : Area) (old new : FlashState) (result : Result (
   pub facts : IsTrue old.medium.told → IfOk result (λ facts. facts ≡ gbb_facts (area_bytes area old.medium))
 
 -- The facts of the slot in an area are read.
-pub record ReadsSlot (area : Area) (old new : FlashState) (result : Result (Result KeyblockFacts KeyblockFault) Failed) : Type 0 where
+pub record ReadsSlot (area : Area) (old new : FlashState) (result : Result (Result SlotFacts KeyblockFault) Failed) : Type 0 where
   pub counters : Observed old.counters new.counters (is_err result)
   pub medium : new.medium ≡ old.medium
   pub facts : IsTrue old.medium.told → IfOk result (λ facts. facts ≡ slot_facts (area_bytes area old.medium))
@@ -40,8 +40,10 @@ pub record ReadsFacts (at : ℕ) (old new : FlashState) (result : Result (Result
   pub counters : Observed old.counters new.counters (is_err result)
   pub medium : new.medium ≡ old.medium
   -- the fault is that of the map table, and there is none where facts are answered
-  pub fault : IsTrue old.medium.told → IfOk result (λ answer. IfErr answer (λ fault. first_fault map_lines (map_question at old.medium) ≡ Some fault))
+  pub fault : IsTrue old.medium.told → IfOk result
+      (λ answer. IfErr answer (λ fault. first_fault map_lines (map_question at old.medium) ≡ Some fault))
   pub none : IsTrue old.medium.told → IfOk result (λ answer. OnOk answer (first_fault map_lines (map_question at old.medium) ≡ None))
   -- the areas are those that the rows of the map name, and the facts those of the areas
-  pub areas : IsTrue old.medium.told → IfOk result (λ answer. IfOk answer (λ facts. areas_in (standing_map (map_question at old.medium)).rows ≡ Some facts.map))
+  pub areas : IsTrue old.medium.told → IfOk result
+      (λ answer. IfOk answer (λ facts. areas_in (standing_map (map_question at old.medium)).rows ≡ Some facts.map))
   pub facts : IsTrue old.medium.told → IfOk result (λ answer. IfOk answer (λ facts. facts ≡ flash_facts at facts.map old.medium))

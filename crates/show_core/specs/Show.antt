@@ -38,7 +38,8 @@ IsUnshown other = ⊥
 -- what was put, where flash and sink tell what they hold
 abbrev pub PutsText : (at : ℕ) → FlashMedium → List ℕ → List ℕ → Result Unit ShowFault → Type 0
 PutsText at medium old new (Ok done) = (text : List ℕ) × IsTextOf at medium text × (new ≡ old ++ text)
-PutsText at medium old new (Err Write) = (text : List ℕ) × IsTextOf at medium text × ((count : ℕ) × (count ≤ length text) × (new ≡ old ++ take count text))
+PutsText at medium old new (Err Write) =
+    (text : List ℕ) × IsTextOf at medium text × ((count : ℕ) × (count ≤ length text) × (new ≡ old ++ take count text))
 PutsText at medium old new (Err Device) = new ≡ old
 PutsText at medium old new (Err (BadFlash fault)) = (first_fault map_lines (map_question at medium) ≡ Some fault) × (new ≡ old)
 

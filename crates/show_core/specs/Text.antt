@@ -1,4 +1,5 @@
--- The text of what a flash holds: a line for the flash, for each of its areas and for its GBB, and two for each slot.
+-- The text of what a flash holds: a line for the flash, for each of its areas and for its GBB, and two for each slot; and that of
+-- a partition: two lines for its kernel, or one.
 -- The form of the lines is this project's own.
 use Rattle.std.specs.Prelude.{ℕ, nat_le, ◌&&◌, ◌==◌, if◌then◌else◌, List, [], ◌∷◌, ◌++◌, map, codes, decimal, Result, Ok, Err}
 use Rattle.std.specs.List.{before_first}
@@ -7,13 +8,20 @@ use Rattle.key_core.specs.declared.fault.KeyblockFault.{KeyblockFault}
 use Rattle.key_core.specs.declared.fault.KeyblockFault.TheVariants as keyblock_fault
 use Rattle.preamble_core.specs.declared.fault.FwPreambleFault.{FwPreambleFault}
 use Rattle.preamble_core.specs.declared.fault.FwPreambleFault.TheVariants as preamble_fault
+use Rattle.preamble_core.specs.declared.fault.KernelPreambleFault.{KernelPreambleFault}
+use Rattle.preamble_core.specs.declared.fault.KernelPreambleFault.TheVariants as kernel_fault
 use Rattle.rom_core.specs.declared.area.Area.{Area}
 use Rattle.rom_core.specs.declared.fault.GbbFault.{GbbFault}
 use Rattle.rom_core.specs.Faults.{gbb_fault_number}
 use Rattle.show_core.specs.declared.facts.FlashFacts.{FlashFacts}
 use Rattle.show_core.specs.declared.facts.GbbFacts.{GbbFacts}
 use Rattle.show_core.specs.declared.facts.KeyblockFacts.{KeyblockFacts}
+use Rattle.show_core.specs.declared.facts.SlotFacts.{SlotFacts}
 use Rattle.show_core.specs.declared.facts.PreambleFacts.{PreambleFacts}
+use Rattle.show_core.specs.declared.facts.PartitionFacts.{PartitionFacts}
+use Rattle.show_core.specs.declared.facts.PartitionFacts.TheVariants.{Short, Kernel}
+use Rattle.show_core.specs.declared.facts.KernelFacts.{KernelFacts}
+use Rattle.show_core.specs.declared.facts.KernelPreambleFacts.{KernelPreambleFacts}
 
 -- ---- the number of a fault: the line of its table, counted from 1
 
@@ -53,6 +61,19 @@ preamble_fault_number preamble_fault.Refused = 10
 preamble_fault_number preamble_fault.VersionRange = 11
 preamble_fault_number preamble_fault.Rollback = 12
 
+abbrev pub kernel_preamble_fault_number : KernelPreambleFault → ℕ
+kernel_preamble_fault_number kernel_fault.TooSmall = 1
+kernel_preamble_fault_number kernel_fault.Version = 2
+kernel_preamble_fault_number kernel_fault.Size = 3
+kernel_preamble_fault_number kernel_fault.SigOutside = 4
+kernel_preamble_fault_number kernel_fault.SignedTooLittle = 5
+kernel_preamble_fault_number kernel_fault.SignedTooMuch = 6
+kernel_preamble_fault_number kernel_fault.BodySigOutside = 7
+kernel_preamble_fault_number kernel_fault.SigSize = 8
+kernel_preamble_fault_number kernel_fault.Refused = 9
+kernel_preamble_fault_number kernel_fault.VersionRange = 10
+kernel_preamble_fault_number kernel_fault.Rollback = 11
+
 -- ---- the ends of lines
 
 abbrev pub line_end : List ℕ
@@ -86,30 +107,54 @@ spaced [] = []
 spaced (byte ∷ bytes) = codes " " ++ (byte ∷ bytes)
 
 abbrev pub gbb_line : Result GbbFacts GbbFault → List ℕ
-gbb_line (Ok gbb) = codes "gbb minor " ++ decimal gbb.minor ++ codes " flags " ++ hex_number 4 gbb.flags ++ codes " hwid" ++ spaced (shown_hwid gbb.hwid) ++ line_end
+gbb_line (Ok gbb) =
+    codes "gbb minor " ++ decimal gbb.minor ++ codes " flags " ++ hex_number 4 gbb.flags ++ codes " hwid" ++ spaced (shown_hwid gbb.hwid)
+    ++ line_end
 gbb_line (Err fault) = codes "gbb" ++ fault_end (gbb_fault_number fault)
 
--- ---- the slots
+-- ---- keyblocks and preambles, of slots and of partitions
 
--- a line of a slot begins with its name and the part that it tells of
-abbrev pub slot_start : (slot part : List ℕ) → List ℕ
-slot_start slot part = codes "slot " ++ slot ++ codes " " ++ part
+-- what a line of a slot begins with, and one of a partition
+abbrev pub slot_front : (slot : List ℕ) → List ℕ
+slot_front slot = codes "slot " ++ slot ++ codes " "
 
-abbrev pub preamble_line : (slot : List ℕ) → Result PreambleFacts FwPreambleFault → List ℕ
-preamble_line slot (Ok preamble) =
-    slot_start slot (codes "preamble") ++ codes " " ++ decimal preamble.size ++ codes " version " ++ decimal preamble.version
-    ++ codes " flags " ++ hex_number 4 preamble.flags ++ codes " body " ++ decimal preamble.body_len ++ line_end
-preamble_line slot (Err fault) = slot_start slot (codes "preamble") ++ fault_end (preamble_fault_number fault)
+abbrev pub partition_front : (index : ℕ) → List ℕ
+partition_front index = codes "partition " ++ decimal index ++ codes " "
 
-abbrev pub keyblock_line : (slot : List ℕ) → KeyblockFacts → List ℕ
-keyblock_line slot keyblock =
-    slot_start slot (codes "keyblock") ++ codes " " ++ decimal keyblock.size ++ codes " flags " ++ decimal keyblock.flags
+abbrev pub keyblock_line : (front : List ℕ) → KeyblockFacts → List ℕ
+keyblock_line front keyblock =
+    front ++ codes "keyblock " ++ decimal keyblock.size ++ codes " flags " ++ decimal keyblock.flags
     ++ codes " key " ++ decimal keyblock.algorithm ++ codes " version " ++ decimal keyblock.version ++ line_end
 
+abbrev pub keyblock_fault_line : (front : List ℕ) → KeyblockFault → List ℕ
+keyblock_fault_line front fault = front ++ codes "keyblock" ++ fault_end (keyblock_fault_number fault)
+
+abbrev pub preamble_line : (front : List ℕ) → Result PreambleFacts FwPreambleFault → List ℕ
+preamble_line front (Ok preamble) =
+    front ++ codes "preamble " ++ decimal preamble.size ++ codes " version " ++ decimal preamble.version
+    ++ codes " flags " ++ hex_number 4 preamble.flags ++ codes " body " ++ decimal preamble.body_len ++ line_end
+preamble_line front (Err fault) = front ++ codes "preamble" ++ fault_end (preamble_fault_number fault)
+
+abbrev pub kernel_preamble_line : (front : List ℕ) → Result KernelPreambleFacts KernelPreambleFault → List ℕ
+kernel_preamble_line front (Ok preamble) =
+    front ++ codes "preamble " ++ decimal preamble.size ++ codes " version " ++ decimal preamble.version
+    ++ codes " load " ++ hex_number 8 preamble.load_address ++ codes " body " ++ decimal preamble.body_len ++ line_end
+kernel_preamble_line front (Err fault) = front ++ codes "preamble" ++ fault_end (kernel_preamble_fault_number fault)
+
 -- a preamble is looked for behind a keyblock without a fault alone
-abbrev pub slot_lines : (slot : List ℕ) → Result KeyblockFacts KeyblockFault → List ℕ
-slot_lines slot (Ok keyblock) = keyblock_line slot keyblock ++ preamble_line slot keyblock.preamble
-slot_lines slot (Err fault) = slot_start slot (codes "keyblock") ++ fault_end (keyblock_fault_number fault)
+abbrev pub slot_lines : (front : List ℕ) → Result SlotFacts KeyblockFault → List ℕ
+slot_lines front (Ok slot) = keyblock_line front slot.keyblock ++ preamble_line front slot.preamble
+slot_lines front (Err fault) = keyblock_fault_line front fault
+
+abbrev pub kernel_text : (front : List ℕ) → Result KernelFacts KeyblockFault → List ℕ
+kernel_text front (Ok kernel) = keyblock_line front kernel.keyblock ++ kernel_preamble_line front kernel.preamble
+kernel_text front (Err fault) = keyblock_fault_line front fault
+
+-- ---- a partition
+
+abbrev pub partition_text : (index : ℕ) → PartitionFacts → List ℕ
+partition_text index Short = partition_front index ++ codes "short" ++ line_end
+partition_text index (Kernel kernel) = kernel_text (partition_front index) kernel
 
 -- ---- the whole
 
@@ -123,5 +168,5 @@ facts_text facts =
     ++ area_line (codes "VBLOCK_B") facts.map.vblock_b
     ++ area_line (codes "FW_MAIN_B") facts.map.main_b
     ++ gbb_line facts.gbb
-    ++ slot_lines (codes "A") facts.slot_a
-    ++ slot_lines (codes "B") facts.slot_b
+    ++ slot_lines (slot_front (codes "A")) facts.slot_a
+    ++ slot_lines (slot_front (codes "B")) facts.slot_b

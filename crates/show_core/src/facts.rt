@@ -1,6 +1,6 @@
-// What is shown of a flash.
+// What is shown of a flash, and of a partition.
 use key_core::KeyblockFault;
-use preamble_core::FwPreambleFault;
+use preamble_core::{FwPreambleFault, KernelPreambleFault};
 use rom_core::{GbbFault, Map};
 
 /// What is shown of a flash with a map.
@@ -14,10 +14,10 @@ pub struct FlashFacts {
     pub map: Map,
     /// The GBB, or what is wrong with it.
     pub gbb: Result<GbbFacts, GbbFault>,
-    /// The keyblock of slot A, or what is wrong with it.
-    pub slot_a: Result<KeyblockFacts, KeyblockFault>,
+    /// Slot A, or what is wrong with its keyblock.
+    pub slot_a: Result<SlotFacts, KeyblockFault>,
     /// That of slot B.
-    pub slot_b: Result<KeyblockFacts, KeyblockFault>,
+    pub slot_b: Result<SlotFacts, KeyblockFault>,
 }
 
 /// What is shown of a GBB.
@@ -31,7 +31,7 @@ pub struct GbbFacts {
     pub hwid: [u8; 256],
 }
 
-/// What is shown of a keyblock that stands at the front of its area, and of what follows it.
+/// What is shown of a keyblock.
 #[derive(Clone, Copy, Debug, PartialEq, Eq)]
 pub struct KeyblockFacts {
     /// Its size with all its parts, in bytes.
@@ -42,6 +42,13 @@ pub struct KeyblockFacts {
     pub algorithm: u32,
     /// The data key's version.
     pub version: u32,
+}
+
+/// What is shown of a slot whose keyblock has no fault.
+#[derive(Clone, Copy, Debug, PartialEq, Eq)]
+pub struct SlotFacts {
+    /// The keyblock at the front of its area.
+    pub keyblock: KeyblockFacts,
     /// The firmware preamble behind it, or what is wrong with it.
     pub preamble: Result<PreambleFacts, FwPreambleFault>,
 }
@@ -56,5 +63,36 @@ pub struct PreambleFacts {
     /// Its flags.
     pub flags: u32,
     /// The size of the firmware body, in bytes.
+    pub body_len: u32,
+}
+
+/// What is shown of a partition that a drive has.
+#[derive(Clone, Copy, Debug, PartialEq, Eq)]
+pub enum PartitionFacts {
+    /// It has under 128 sectors, which is too short for the head of a kernel.
+    Short,
+    /// The kernel at its front, or what is wrong with the keyblock there.
+    Kernel(Result<KernelFacts, KeyblockFault>),
+}
+
+/// What is shown of a kernel whose keyblock has no fault.
+#[derive(Clone, Copy, Debug, PartialEq, Eq)]
+pub struct KernelFacts {
+    /// The keyblock at the front of its partition.
+    pub keyblock: KeyblockFacts,
+    /// The kernel preamble behind it, or what is wrong with it.
+    pub preamble: Result<KernelPreambleFacts, KernelPreambleFault>,
+}
+
+/// What is shown of a kernel preamble.
+#[derive(Clone, Copy, Debug, PartialEq, Eq)]
+pub struct KernelPreambleFacts {
+    /// Its size with all its parts, in bytes.
+    pub size: u32,
+    /// The kernel's version.
+    pub version: u32,
+    /// The address that the body is loaded at.
+    pub load_address: u64,
+    /// The size of the kernel body, in bytes.
     pub body_len: u32,
 }

@@ -1,19 +1,23 @@
-//! What the firmware of a flash is, as text: its map, its GBB, and the keyblock and the preamble of each slot.
+//! What the firmware of a flash is, as text: its map, its GBB, and the keyblock and the preamble of each slot. And what the
+//! kernel in a partition is: its keyblock and its preamble.
 //!
-//! - `facts` has what is shown, and `reading` reads it.
-//! - `printing` makes its text, and `show` is the call that does both.
+//! - `facts` has what is shown.
+//! - `reading` reads it of a flash, and `partition_reading` of a partition.
+//! - `printing` makes its text; `show` and `partition` are the calls that do both.
 #![tactic(auto)]
 
 mod facts;
+mod partition;
+mod partition_reading;
 mod printing;
-#[cfg(test)]
-mod printing_tests;
 mod reading;
 mod show;
-#[cfg(test)]
-mod show_tests;
 
-pub use facts::{FlashFacts, GbbFacts, KeyblockFacts, PreambleFacts};
-pub use printing::text_of_facts;
+pub use facts::{
+    FlashFacts, GbbFacts, KernelFacts, KernelPreambleFacts, KeyblockFacts, PartitionFacts,
+    PreambleFacts, SlotFacts,
+};
+pub use partition::{PartitionFault, show_partition};
+pub use printing::{text_of_facts, text_of_partition};
 pub use reading::read_facts;
 pub use show::{ShowFault, show_flash};

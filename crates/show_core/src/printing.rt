@@ -1,13 +1,16 @@
-// The text of what a flash holds, one line after the other. A function that appends asks for room for the most that it
+// The text of what a flash or a partition holds, one line after the other. A function that appends asks for room for the most that it
 // appends, rounded up in places; all lines together stay under the 2,048 bytes of a text.
 ghost use Rattle.std.specs.Prelude.{◌≡◌, ◌+◌, ◌≤◌, ◌==◌, ◌++◌, length, decimal, position, map};
 ghost use Rattle.text_core.specs.Numbers.{hex_number};
 ghost use Rattle.show_core.specs.Text as spec;
-ghost use Rattle.show_core.specs.Text.{facts_text};
+ghost use Rattle.show_core.specs.Text.{facts_text, partition_text};
 
-use crate::facts::{FlashFacts, GbbFacts, KeyblockFacts, PreambleFacts};
+use crate::facts::{
+    FlashFacts, GbbFacts, KernelFacts, KernelPreambleFacts, KeyblockFacts, PartitionFacts,
+    PreambleFacts, SlotFacts,
+};
 use key_core::KeyblockFault;
-use preamble_core::FwPreambleFault;
+use preamble_core::{FwPreambleFault, KernelPreambleFault};
 use rom_core::{Area, GbbFault, before_nul};
 use text_core::Text;
 
@@ -29,8 +32,8 @@ pub fn text_of_facts(facts: &FlashFacts) -> Text
     push_area_line(&mut text, b"VBLOCK_B", &facts.map.vblock_b);
     push_area_line(&mut text, b"FW_MAIN_B", &facts.map.main_b);
     push_gbb_line(&mut text, &facts.gbb);
-    push_slot_lines(&mut text, b"A", &facts.slot_a);
-    push_slot_lines(&mut text, b"B", &facts.slot_b);
+    push_slot_lines(&mut text, b"slot A ", &facts.slot_a);
+    push_slot_lines(&mut text, b"slot B ", &facts.slot_b);
     text
 }
 
@@ -122,86 +125,154 @@ fn shown_byte(byte: u8) -> u8
     }
 }
 
-// ---- the slots
+// ---- keyblocks and preambles, of slots and of partitions. `front` is what each line begins with.
 
-fn push_slot_lines(text: &mut Text, slot: &[u8], keyblock: &Result<KeyblockFacts, KeyblockFault>)
-    requires slot { length slot.now ≤ 1 }
-    requires room { length text.old + 256 ≤ 2048 }
-    ensures text { text.new ≡ text.old ++ spec.slot_lines slot.now keyblock.now }
-    ensures size { length text.new ≤ length text.old + 256 }
+fn push_slot_lines(text: &mut Text, front: &[u8], slot: &Result<SlotFacts, KeyblockFault>)
+    requires front { length front.now ≤ 31 }
+    requires room { length text.old + 304 ≤ 2048 }
+    ensures text { text.new ≡ text.old ++ spec.slot_lines front.now slot.now }
+    ensures size { length text.new ≤ length text.old + 304 }
 {
-    match keyblock {
-        Ok(keyblock) => {
-            push_keyblock(text, slot, keyblock);
-            push_preamble_line(text, slot, &keyblock.preamble);
+    match slot {
+        Ok(slot) => {
+            push_keyblock(text, front, &slot.keyblock);
+            push_preamble_line(text, front, &slot.preamble);
         }
-        Err(fault) => {
-            push_slot_start(text, slot, b"keyblock");
-            push_fault_end(text, keyblock_fault_number(*fault));
-        }
+        Err(fault) => push_keyblock_fault(text, front, *fault),
     }
 }
 
 // The line of a keyblock without a fault.
-fn push_keyblock(text: &mut Text, slot: &[u8], keyblock: &KeyblockFacts)
-    requires slot { length slot.now ≤ 1 }
-    requires room { length text.old + 128 ≤ 2048 }
-    ensures text { text.new ≡ text.old ++ spec.keyblock_line slot.now keyblock.now }
-    ensures size { length text.new ≤ length text.old + 128 }
+fn push_keyblock(text: &mut Text, front: &[u8], keyblock: &KeyblockFacts)
+    requires front { length front.now ≤ 31 }
+    requires room { length text.old + 160 ≤ 2048 }
+    ensures text { text.new ≡ text.old ++ spec.keyblock_line front.now keyblock.now }
+    ensures size { length text.new ≤ length text.old + 160 }
 {
-    push_slot_start(text, slot, b"keyblock");
-    push_field(text, b" ", keyblock.size);
+    text.push(front);
+    push_field(text, b"keyblock ", keyblock.size);
     push_field(text, b" flags ", keyblock.flags);
     push_field(text, b" key ", keyblock.algorithm);
     push_field(text, b" version ", keyblock.version);
     text.push(b"\n");
 }
 
+// The line of a keyblock with a fault.
+fn push_keyblock_fault(text: &mut Text, front: &[u8], fault: KeyblockFault)
+    requires front { length front.now ≤ 31 }
+    requires room { length text.old + 96 ≤ 2048 }
+    ensures text { text.new ≡ text.old ++ spec.keyblock_fault_line front.now fault }
+    ensures size { length text.new ≤ length text.old + 96 }
+{
+    text.push(front);
+    text.push(b"keyblock");
+    push_fault_end(text, keyblock_fault_number(fault));
+}
+
 fn push_preamble_line(
     text: &mut Text,
-    slot: &[u8],
+    front: &[u8],
     preamble: &Result<PreambleFacts, FwPreambleFault>,
 )
-    requires slot { length slot.now ≤ 1 }
-    requires room { length text.old + 128 ≤ 2048 }
-    ensures text { text.new ≡ text.old ++ spec.preamble_line slot.now preamble.now }
-    ensures size { length text.new ≤ length text.old + 128 }
+    requires front { length front.now ≤ 31 }
+    requires room { length text.old + 144 ≤ 2048 }
+    ensures text { text.new ≡ text.old ++ spec.preamble_line front.now preamble.now }
+    ensures size { length text.new ≤ length text.old + 144 }
 {
     match preamble {
-        Ok(preamble) => push_preamble(text, slot, preamble),
+        Ok(preamble) => push_preamble(text, front, preamble),
         Err(fault) => {
-            push_slot_start(text, slot, b"preamble");
+            text.push(front);
+            text.push(b"preamble");
             push_fault_end(text, preamble_fault_number(*fault));
         }
     }
 }
 
-// The line of a preamble without a fault.
-fn push_preamble(text: &mut Text, slot: &[u8], preamble: &PreambleFacts)
-    requires slot { length slot.now ≤ 1 }
-    requires room { length text.old + 128 ≤ 2048 }
-    ensures text { text.new ≡ text.old ++ spec.preamble_line slot.now (Ok preamble.now) }
-    ensures size { length text.new ≤ length text.old + 128 }
+// The line of a firmware preamble without a fault.
+fn push_preamble(text: &mut Text, front: &[u8], preamble: &PreambleFacts)
+    requires front { length front.now ≤ 31 }
+    requires room { length text.old + 144 ≤ 2048 }
+    ensures text { text.new ≡ text.old ++ spec.preamble_line front.now (Ok preamble.now) }
+    ensures size { length text.new ≤ length text.old + 144 }
 {
-    push_slot_start(text, slot, b"preamble");
-    push_field(text, b" ", preamble.size);
+    text.push(front);
+    push_field(text, b"preamble ", preamble.size);
     push_field(text, b" version ", preamble.version);
     push_hex_field(text, b" flags ", preamble.flags);
     push_field(text, b" body ", preamble.body_len);
     text.push(b"\n");
 }
 
-fn push_slot_start(text: &mut Text, slot: &[u8], part: &[u8])
-    requires slot { length slot.now ≤ 1 }
-    requires part { length part.now ≤ 8 }
-    requires room { length text.old + 15 ≤ 2048 }
-    ensures text { text.new ≡ text.old ++ spec.slot_start slot.now part.now }
-    ensures size { length text.new ≤ length text.old + 15 }
+// ---- a partition
+
+/// The text of partition `index` of a drive: a line for its keyblock and one for its preamble, or one that tells the fault
+/// of the keyblock, or that the partition is too short for a kernel. Each line ends with LF.
+///
+/// The load address is printed in hexadecimal, all other numbers in decimal, and a fault by its number.
+pub fn text_of_partition(index: u32, facts: &PartitionFacts) -> Text
+    ensures { result ≡ partition_text index facts.now }
 {
-    text.push(b"slot ");
-    text.push(slot);
-    text.push(b" ");
-    text.push(part);
+    let mut front = Text::new();
+    push_field(&mut front, b"partition ", index);
+    front.push(b" ");
+    let mut text = Text::new();
+    match facts {
+        PartitionFacts::Short => {
+            text.push(front.as_slice());
+            text.push(b"short\n");
+        }
+        PartitionFacts::Kernel(kernel) => push_kernel_lines(&mut text, front.as_slice(), kernel),
+    }
+    text
+}
+
+fn push_kernel_lines(text: &mut Text, front: &[u8], kernel: &Result<KernelFacts, KeyblockFault>)
+    requires front { length front.now ≤ 31 }
+    requires room { length text.old + 512 ≤ 2048 }
+    ensures text { text.new ≡ text.old ++ spec.kernel_text front.now kernel.now }
+{
+    match kernel {
+        Ok(kernel) => {
+            push_keyblock(text, front, &kernel.keyblock);
+            push_kernel_preamble_line(text, front, &kernel.preamble);
+        }
+        Err(fault) => push_keyblock_fault(text, front, *fault),
+    }
+}
+
+fn push_kernel_preamble_line(
+    text: &mut Text,
+    front: &[u8],
+    preamble: &Result<KernelPreambleFacts, KernelPreambleFault>,
+)
+    requires front { length front.now ≤ 31 }
+    requires room { length text.old + 256 ≤ 2048 }
+    ensures { text.new ≡ text.old ++ spec.kernel_preamble_line front.now preamble.now }
+{
+    match preamble {
+        Ok(preamble) => push_kernel_preamble(text, front, preamble),
+        Err(fault) => {
+            text.push(front);
+            text.push(b"preamble");
+            push_fault_end(text, kernel_preamble_fault_number(*fault));
+        }
+    }
+}
+
+// The line of a kernel preamble without a fault.
+fn push_kernel_preamble(text: &mut Text, front: &[u8], preamble: &KernelPreambleFacts)
+    requires front { length front.now ≤ 31 }
+    requires room { length text.old + 256 ≤ 2048 }
+    ensures { text.new ≡ text.old ++ spec.kernel_preamble_line front.now (Ok preamble.now) }
+{
+    text.push(front);
+    push_field(text, b"preamble ", preamble.size);
+    push_field(text, b" version ", preamble.version);
+    text.push(b" load ");
+    text.push_long_hex(preamble.load_address);
+    push_field(text, b" body ", preamble.body_len);
+    text.push(b"\n");
 }
 
 // ---- parts of a line
@@ -246,6 +317,12 @@ fn keyblock_fault_number(fault: KeyblockFault) -> u8
 
 fn preamble_fault_number(fault: FwPreambleFault) -> u8
     ensures { result ≡ spec.preamble_fault_number fault }
+{
+    fault as u8
+}
+
+fn kernel_preamble_fault_number(fault: KernelPreambleFault) -> u8
+    ensures { result ≡ spec.kernel_preamble_fault_number fault }
 {
     fault as u8
 }

@@ -4,7 +4,7 @@ ghost use Rattle.show_core.specs.Facts as spec;
 ghost use Rattle.show_core.specs.Reading.{ReadsSlot, ReadsGbbFacts, ReadsAreas, ReadsFacts};
 ghost use Rattle.rom_core.specs.MapFits.{FitsFlash};
 
-use crate::facts::{FlashFacts, GbbFacts, KeyblockFacts, PreambleFacts};
+use crate::facts::{FlashFacts, GbbFacts, KeyblockFacts, PreambleFacts, SlotFacts};
 use board_core::{Failed, Flash};
 use key_core::{KeyblockFault, KeyblockView, Seal};
 use preamble_core::{FwPreambleFault, FwPreambleView};
@@ -25,19 +25,28 @@ fn preamble_facts(bytes: &[u8]) -> Result<PreambleFacts, FwPreambleFault>
     }
 }
 
-// What is shown of the keyblock that these bytes begin with, and of what follows it.
-fn slot_facts(bytes: &[u8]) -> Result<KeyblockFacts, KeyblockFault>
+// What is shown of a keyblock.
+pub(crate) fn keyblock_facts(keyblock: &KeyblockView) -> KeyblockFacts
+    ensures { result ≡ spec.facts_of_keyblock keyblock.now }
+{
+    let key = keyblock.data_key();
+    KeyblockFacts {
+        size: keyblock.size(),
+        flags: keyblock.flags(),
+        algorithm: key.algorithm(),
+        version: key.version(),
+    }
+}
+
+// What is shown of the slot whose keyblock these bytes begin with.
+fn slot_facts(bytes: &[u8]) -> Result<SlotFacts, KeyblockFault>
     ensures { result ≡ spec.slot_facts bytes.now }
 {
     match KeyblockView::check(bytes, Seal::Signature) {
         Ok(keyblock) => {
             let size = keyblock.size();
-            let key = keyblock.data_key();
-            Ok(KeyblockFacts {
-                size,
-                flags: keyblock.flags(),
-                algorithm: key.algorithm(),
-                version: key.version(),
+            Ok(SlotFacts {
+                keyblock: keyblock_facts(&keyblock),
                 preamble: preamble_facts(&bytes[size as usize..]),
             })
         }
@@ -50,7 +59,7 @@ fn read_slot<F: Flash>(
     flash: &mut F,
     area: Area,
     bytes: &mut [u8],
-) -> Result<Result<KeyblockFacts, KeyblockFault>, Failed>
+) -> Result<Result<SlotFacts, KeyblockFault>, Failed>
     requires inside { area.at + area.size ≤ (F.state flash.old).medium.size }
     requires room { length bytes.old ≡ area.size }
     ensures { ReadsSlot area (F.state flash.old) (F.state flash.new) result }

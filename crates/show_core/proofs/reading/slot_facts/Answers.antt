@@ -1,13 +1,14 @@
-use Rattle.std.proofs.Common.{ap, ◌∙◌}
+use Rattle.std.proofs.Common.{◌≡◌, ◌∙◌, ℕ, ap, drop}
 use Rattle.std.proofs.lemmas.List.{take_rest}
-use Rattle.key_core.specs.Parts.{Key}
-use Rattle.show_core.specs.Facts.{preamble_facts}
-use Rattle.show_core.proofs.Shown.{shown-none, keyblock_read}
+use Rattle.key_core.specs.declared.keyblock.Seal.TheVariants.{Signature}
+use Rattle.key_core.specs.Keyblocks.{Keyblock, keyblock_in}
+use Rattle.show_core.specs.Facts.{preamble_facts, facts_of_keyblock}
+use Rattle.show_core.proofs.Shown.{shown-none, slot_read}
 use Rattle.show_core.proofs.reading.slot_facts.Goals as goal
 
 pub returns-in-Ok : goal.returns-in-Ok
 returns-in-Ok c =
+    let size = c.size-size.ensures ∙ ap (λ (k : Keyblock). k.size) c.in-Ok.ensures.parts in
     shown-none _ _ _ c.in-Ok.ensures.none
-    (keyblock_read c.in-Ok.keyblock _ c.args.bytes.now _ _ _ _ _ c.in-Ok.ensures.parts c.size-size.ensures c.flags.ensures
-    (c.algorithm.ensures ∙ ap (λ (key : Key). key.algorithm) c.data_key-key.ensures) (c.version.ensures ∙ ap (λ (key : Key). key.version) c.data_key-key.ensures)
-    (c.preamble_facts.ensures ∙ ap preamble_facts (take_rest c.args.bytes.now c.size-size.result)))
+    (slot_read (keyblock_in Signature c.args.bytes.now) c.args.bytes.now _ _ (c.keyblock_facts.ensures ∙ ap facts_of_keyblock c.in-Ok.ensures.parts)
+    (c.preamble_facts.ensures ∙ ap preamble_facts (take_rest c.args.bytes.now c.size-size.result) ∙ ap (λ (n : ℕ). preamble_facts (drop n c.args.bytes.now)) size))

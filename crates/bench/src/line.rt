@@ -11,11 +11,32 @@ pub enum SpaceName {
     Kernel,
 }
 
+/// An image of a machine, by its name in a line.
+#[derive(Clone, Copy, Debug, PartialEq, Eq)]
+pub enum ImageName {
+    Flash,
+    Disk,
+    Stick,
+}
+
+impl ImageName {
+    fn named(name: &str) -> Option<ImageName> {
+        match name {
+            "flash" => Some(ImageName::Flash),
+            "disk" => Some(ImageName::Disk),
+            "stick" => Some(ImageName::Stick),
+            _ => None,
+        }
+    }
+}
+
 /// A device whose calls fail in turn.
 #[derive(Clone, Copy, Debug, PartialEq, Eq)]
 pub enum Failing {
     Flash,
     Tpm,
+    Disk,
+    Stick,
     Hook,
     Sink,
 }
@@ -26,6 +47,8 @@ impl Failing {
         match name {
             "flash" => Some(Failing::Flash),
             "tpm" => Some(Failing::Tpm),
+            "disk" => Some(Failing::Disk),
+            "stick" => Some(Failing::Stick),
             "hook" => Some(Failing::Hook),
             "sink" => Some(Failing::Sink),
             _ => None,
@@ -40,8 +63,12 @@ pub enum Line {
     Machine(u32),
     /// A machine whose flash has so many erased bytes.
     Erased(u32),
-    /// Bytes are put into the flash of the machine, from a place.
-    Rewrite(u32, Vec<u8>),
+    /// The disk of the machine has so many sectors of zeros.
+    Disk(u32),
+    /// Its stick has.
+    Stick(u32),
+    /// Bytes are put into an image of the machine, from a place.
+    Rewrite(ImageName, u32, Vec<u8>),
     /// A space of the machine has these bytes.
     Space(SpaceName, Vec<u8>),
     /// The machine accepts these signatures.
@@ -95,11 +122,15 @@ pub fn line_of(alloc: Global, words: &[String]) -> Option<Line> {
         [verb, number] if verb.as_str() == "erased" => {
             Some(Line::Erased(number_in(number.as_str())?))
         }
-        [verb, device, place, digits] if verb.as_str() == "rewrite" && device.as_str() == "flash" =>
-            {
-                let place = number_in(place.as_str())?;
-                Some(Line::Rewrite(place, bytes_in(alloc, digits.as_str())?))
-            }
+        [verb, number] if verb.as_str() == "disk" => Some(Line::Disk(number_in(number.as_str())?)),
+        [verb, number] if verb.as_str() == "stick" => {
+            Some(Line::Stick(number_in(number.as_str())?))
+        }
+        [verb, image, place, digits] if verb.as_str() == "rewrite" => {
+            let image = ImageName::named(image.as_str())?;
+            let place = number_in(place.as_str())?;
+            Some(Line::Rewrite(image, place, bytes_in(alloc, digits.as_str())?))
+        }
         [verb, space, digits] if verb.as_str() == "space" => {
             let space = space_named(space.as_str())?;
             Some(Line::Space(space, bytes_in(alloc, digits.as_str())?))
@@ -117,7 +148,7 @@ pub fn line_of(alloc: Global, words: &[String]) -> Option<Line> {
             Some(Line::Each(Failing::named(device.as_str())?, 2))
         }
         [verb, ..] => match verb.as_str() {
-            "machine" | "erased" | "rewrite" | "space" | "row" | "each" => None,
+            "machine" | "erased" | "disk" | "stick" | "rewrite" | "space" | "row" | "each" => None,
             _ => Some(Line::Words),
         },
         [] => None,

@@ -1,10 +1,11 @@
 //! The bench: it reads a script of cases, runs each over devices in memory, and prints a transcript, which the gate compares.
 //!
-//! Each line of the script is printed, and below it what it came to. `machine N` makes the machine of a number, and `erased N`
-//! one whose flash has so many erased bytes; `rewrite flash PLACE HEX` and `space firmware HEX` change its images, `row ALGORITHM
-//! KEY DIGEST SIGNATURE` enrolls a signature by the digests of its file; `each DEVICE WORDS` runs words with each call of a device
-//! failing in turn, with each of the remains, and then once more without a failure, and leaves the machine as it was; any other
-//! words are run on the machine. A line that begins with `#` is a comment.
+//! Each line of the script is printed, and below it what it came to. `machine N` makes the machine of a number, without drives,
+//! and `erased N` one whose flash has so many erased bytes; `disk N` and `stick N` give it a drive of so many sectors of zeros;
+//! `rewrite IMAGE PLACE HEX` and `space firmware HEX` change its images, `row ALGORITHM KEY DIGEST SIGNATURE` enrolls a signature
+//! by the digests of its file; `each DEVICE WORDS` runs words with each call of a device failing in turn, with each of the remains,
+//! and then once more without a failure, and leaves the machine as it was; any other words are run on the machine. A line that
+//! begins with `#` is a comment.
 #![tactic(auto)]
 
 mod line;
@@ -13,8 +14,8 @@ mod running;
 mod transcript;
 
 use board_mem::{FailAt, Remains};
-use line::{Failing, Line, SpaceName, line_of};
-use machine::{Machine, SpaceImage};
+use line::{Failing, ImageName, Line, SpaceName, line_of};
+use machine::{DriveImage, Machine, SpaceImage};
 use running::run_on;
 use std::alloc::{AllocError, Global};
 use std::io;
@@ -61,14 +62,19 @@ fn run_each<R: Print + AllocGlobal>(
     Ok(())
 }
 
-// Makes the machine of a number.
+/// The sectors of the disk of a machine that is made.
+const MADE_SECTORS: u32 = 16384;
+
+// Makes the machine of a number, without its drives.
 fn make_machine(alloc: Global, number: u32) -> Result<Machine, AllocError> {
-    let erased = Machine::erased(alloc, 1_048_576)?;
+    let mut erased = Machine::erased(alloc, 1_048_576)?;
+    erased.disk = DriveImage::zeros(alloc, MADE_SECTORS)?;
     let mut words = Vec::new(alloc);
     words.push(String::from_str(alloc, "make")?)?;
     words.push(format!(in alloc; "{number}")?)?;
-    let ran = run_on(alloc, &erased, &words, None)?;
-    Ok(ran.after)
+    let mut made = run_on(alloc, &erased, &words, None)?.after;
+    made.disk = DriveImage::zeros(alloc, 0)?;
+    Ok(made)
 }
 
 // The machine of a number, which is made once where its number is that of the one before.
@@ -87,6 +93,15 @@ fn machine_of_number(
     Ok(machine)
 }
 
+// Puts bytes into an image of a machine, and answers whether they lie inside.
+fn rewrite(machine: &mut Machine, image: ImageName, at: usize, bytes: &[u8]) -> bool {
+    match image {
+        ImageName::Flash => machine.rewrite(at, bytes),
+        ImageName::Disk => machine.disk.rewrite(at, bytes),
+        ImageName::Stick => machine.stick.rewrite(at, bytes),
+    }
+}
+
 // Works a line, and answers the machine after it.
 fn work<R: Print + AllocGlobal>(
     rt: &R,
@@ -103,9 +118,17 @@ fn work<R: Print + AllocGlobal>(
         }
         Some(Line::Machine(number)) => Ok(machine_of_number(alloc, made, number)?),
         Some(Line::Erased(size)) => Ok(Machine::erased(alloc, size)?),
-        Some(Line::Rewrite(at, bytes)) => {
-            if !machine.rewrite(at as usize, &bytes) {
-                println!(rt; "  line {number} is not inside the flash")?;
+        Some(Line::Disk(sectors)) => {
+            machine.disk = DriveImage::zeros(alloc, sectors)?;
+            Ok(machine)
+        }
+        Some(Line::Stick(sectors)) => {
+            machine.stick = DriveImage::zeros(alloc, sectors)?;
+            Ok(machine)
+        }
+        Some(Line::Rewrite(image, at, bytes)) => {
+            if !rewrite(&mut machine, image, at as usize, &bytes) {
+                println!(rt; "  line {number} is not inside the image")?;
             }
             Ok(machine)
         }

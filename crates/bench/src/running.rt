@@ -3,7 +3,7 @@ ghost use Rattle.std.specs.Prelude.{◌≡◌, ◌≤◌, length, IfOk};
 ghost use Rattle.board_core.specs.FuseDisk.{fuse_disk_state};
 
 use crate::line::Failing;
-use crate::machine::{Machine, SpaceImage};
+use crate::machine::{DriveImage, Machine, SpaceImage};
 use board_core::{Flash, Fuse, FuseDisk, FuseTpm, HookRow, Platform, Space, Tpm};
 use board_mem::{FailAt, MemDisk, MemFlash, MemSink, MemTpm, TableHook};
 use command_core::run_words;
@@ -35,28 +35,16 @@ fn fails_of(
     Ok(fails)
 }
 
-// A disk of zeros of so many pieces of 64 sectors.
-fn blank_disk(
+// A drive that holds this image.
+fn drive_with(
     alloc: Global,
-    pieces: usize,
+    image: &DriveImage,
     fails: &[FailAt],
 ) -> Result<FuseDisk<MemDisk>, AllocError>
-    requires { pieces ≤ 256 }
     ensures { IfOk result (λ disk. (fuse_disk_state disk).medium.pending ≡ 0) }
 {
-    let content = vec![in alloc; 0; pieces * 32768]?;
-    let disk = MemDisk::new(alloc, &content, fails)?;
+    let disk = MemDisk::new(alloc, image.as_slice(), fails)?;
     Ok(FuseDisk::new(alloc, disk))
-}
-
-// How many pieces the disk of a run has: that of a made machine, or none, since no other command touches a drive yet.
-fn disk_pieces(words: &[String]) -> usize
-    ensures { result ≤ 256 }
-{
-    match words.first() {
-        Some(word) if word.as_str() == "make" => 256,
-        _ => 0,
-    }
 }
 
 // The bytes of a flash.
@@ -84,6 +72,8 @@ pub fn run_on(
 ) -> Result<Ran, AllocError> {
     let flash_fails = fails_of(alloc, Failing::Flash, failing)?;
     let tpm_fails = fails_of(alloc, Failing::Tpm, failing)?;
+    let disk_fails = fails_of(alloc, Failing::Disk, failing)?;
+    let stick_fails = fails_of(alloc, Failing::Stick, failing)?;
     let hook_fails = fails_of(alloc, Failing::Hook, failing)?;
     let sink_fails = fails_of(alloc, Failing::Sink, failing)?;
     let flash = MemFlash::new(alloc, &machine.flash, &flash_fails)?;
@@ -95,14 +85,16 @@ pub fn run_on(
     let mut board = Platform {
         flash: Fuse::new(alloc, flash),
         tpm: FuseTpm::new(tpm),
-        disk: blank_disk(alloc, disk_pieces(words), &[])?,
-        stick: blank_disk(alloc, 0, &[])?,
+        disk: drive_with(alloc, &machine.disk, &disk_fails)?,
+        stick: drive_with(alloc, &machine.stick, &stick_fails)?,
         hook,
         map_at: 0,
     };
     let status = run_words(alloc, words, &mut board, &mut out).code;
     let rows = board.hook.rows().to_vec(alloc)?;
-    let after = machine_of(alloc, &mut board.flash, &mut board.tpm, rows)?;
+    let mut after = machine_of(alloc, &mut board.flash, &mut board.tpm, rows)?;
+    after.disk = DriveImage::of(alloc, &mut board.disk)?;
+    after.stick = DriveImage::of(alloc, &mut board.stick)?;
     Ok(Ran {
         text: out.bytes().to_vec(alloc)?,
         status,
@@ -110,7 +102,7 @@ pub fn run_on(
     })
 }
 
-// What a flash and a TPM hold, with these accepted signatures.
+// What a flash and a TPM hold, with these accepted signatures and no drives.
 fn machine_of<F: Flash, T: Tpm>(
     alloc: Global,
     flash: &mut F,
@@ -127,6 +119,8 @@ fn machine_of<F: Flash, T: Tpm>(
         flash: bytes,
         firmware: space_of(tpm, Space::Firmware),
         kernel: space_of(tpm, Space::Kernel),
+        disk: DriveImage::zeros(alloc, 0)?,
+        stick: DriveImage::zeros(alloc, 0)?,
         rows,
     })
 }

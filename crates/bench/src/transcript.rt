@@ -14,7 +14,10 @@ const MOST_CHANGES: usize = 8;
 // The end of the changed bytes that begin at a place: up to the next byte that is the same.
 fn end_of_change(old: &[u8], new: &[u8], from: usize) -> usize {
     let mut end = from;
-    for (was, is) in old.iter().zip(new).skip(from) {
+    if from > old.len() || from > new.len() {
+        return end;
+    }
+    for (was, is) in old[from..].iter().zip(&new[from..]) {
         if *was == *is {
             break;
         }
@@ -25,9 +28,12 @@ fn end_of_change(old: &[u8], new: &[u8], from: usize) -> usize {
 
 // The first byte from a place on that changed.
 fn next_change(old: &[u8], new: &[u8], from: usize) -> Option<usize> {
-    old.iter()
-        .zip(new)
-        .skip(from)
+    if from > old.len() || from > new.len() {
+        return None;
+    }
+    old[from..]
+        .iter()
+        .zip(&new[from..])
         .position(|(was, is)| *was != *is)
         .map(|ahead| from.saturating_add(ahead))
 }
@@ -93,6 +99,9 @@ pub fn print_run<R: Print + AllocGlobal>(rt: &R, before: &Machine, ran: &Ran) ->
     let (new_firmware, new_kernel) = (ran.after.firmware, ran.after.kernel);
     print_changes(rt, "firmware", firmware.as_slice(), new_firmware.as_slice())?;
     print_changes(rt, "kernel", kernel.as_slice(), new_kernel.as_slice())?;
+    let (disk, stick) = (&before.disk, &before.stick);
+    print_changes(rt, "disk", disk.as_slice(), ran.after.disk.as_slice())?;
+    print_changes(rt, "stick", stick.as_slice(), ran.after.stick.as_slice())?;
     let (rows, new_rows) = (before.rows.len(), ran.after.rows.len());
     if rows == new_rows {
         return Ok(());

@@ -26,4 +26,6 @@ pub record SameBeside (size at : ℕ) (map : Map) (old new : List ℕ) : Type 0 
 
 -- two flashes that are the same but for the pages of nvdata, which lie apart from the map and the other areas
 abbrev pub StaysBeside : Type 0
-StaysBeside = (size at : ℕ) (map : Map) (old new : List ℕ) → IsApart at (count_of (head_at old at)) map → SameButPages map.nvram.at old new → SameBeside size at map old new
+StaysBeside =
+    (size at : ℕ) (map : Map) (old new : List ℕ) → IsApart at (count_of (head_at old at)) map → SameButPages map.nvram.at old new
+    → SameBeside size at map old new

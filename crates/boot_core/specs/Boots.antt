@@ -41,7 +41,8 @@ pub record BootPlan : Type 0 where
 
 -- that of a plan over what was found
 abbrev pub boot_plan_of : Found → Plan → BootPlan
-boot_plan_of found plan = record { outcome = plan.outcome; changes = changes_of plan; to = targets_at found.map.nvram.at; state = found.state }
+boot_plan_of found plan =
+    record { outcome = plan.outcome; changes = changes_of plan; to = targets_at found.map.nvram.at; state = found.state }
 
 -- that of a flash whose map has a fault: nothing is changed
 abbrev pub bad_flash_plan : MapFault → BootPlan
@@ -62,7 +63,9 @@ slot_mode true = Developer
 -- A good slot is not refused: where the mode of a board boots a slot, and the table of the selected one finds no fault, the plan
 -- goes on with it.
 abbrev pub TakesGoodSlot : Type 0
-TakesGoodSlot = (sw : Switches) (w : World) (found : Found) (developer : Bool) → found_of w ≡ Ok found → mode_of (facts_of sw found) ≡ slot_mode developer
+TakesGoodSlot =
+    (sw : Switches) (w : World) (found : Found) (developer : Bool) → found_of w ≡ Ok found
+    → mode_of (facts_of sw found) ≡ slot_mode developer
     → let slot = selected_slot found.state.nv in let ok = slot_ok (slot_asked found slot w) in
     slot_fault (slot_asked found slot w) ≡ None → (boot_plan sw w).outcome ≡ outcome.Verified developer slot ok.version ok.body_len
 
@@ -76,10 +79,12 @@ pub record State : Type 0 where
   pub table : Option PartitionTable
 
 abbrev pub state_of : ℕ → World → State
-state_of area w = record { nv = record_in area w.flash.medium.bytes; spaces = w.tpm.spaces; table = table_in w.disk.medium.sectors w.disk.medium.bytes }
+state_of area w =
+    record { nv = record_in area w.flash.medium.bytes; spaces = w.tpm.spaces; table = table_in w.disk.medium.sectors w.disk.medium.bytes }
 
 abbrev pub changed_state : PartitionTable → State → Change → State
-changed_state table s change = record { nv = record_with s.nv change; spaces = spaces_with s.spaces change; table = table_with table s.table change }
+changed_state table s change =
+    record { nv = record_with s.nv change; spaces = spaces_with s.spaces change; table = table_with table s.table change }
 
 -- the state after so many changes of a plan
 abbrev pub state_after : BootPlan → ℕ → World → State
@@ -149,7 +154,8 @@ pub record AtFault (plan : BootPlan) (fault : Fault) (old new : World) : Type 0 
   pub disk : IsTrue old.disk.medium.told → HasNoTable (take (fault.done + 1) plan.changes) → new.disk.medium.bytes ≡ old.disk.medium.bytes
   -- a stop that fell, fell in the change after those that are done
   pub fell : (left keep : ℕ) → (counters_on fault.device old).stop ≡ Armed left keep → (counters_on fault.device new).stop ≡ Dead
-      → (calls_on fault.device plan.state (take fault.done plan.changes) < left) × (left ≤ calls_on fault.device plan.state (take (fault.done + 1) plan.changes))
+      → (calls_on fault.device plan.state (take fault.done plan.changes) < left)
+      × (left ≤ calls_on fault.device plan.state (take (fault.done + 1) plan.changes))
 
 -- ---- versions
 

@@ -114,9 +114,13 @@ pub record FailsToWrite (table : PartitionTable) (old new : DiskMedium) : Type 0
 
 -- what the change that failed leaves on its device; the others were not called
 abbrev pub Fails : Targets → Change → World → World → Type 0
-Fails to (Record r) old new = FailsToStore to.area r old.flash.medium new.flash.medium × (new.tpm.spaces ≡ old.tpm.spaces) × (new.disk.medium ≡ old.disk.medium)
-Fails to Table old new = FailsToWrite to.table old.disk.medium new.disk.medium × (new.tpm.spaces ≡ old.tpm.spaces) × (new.flash.medium ≡ old.flash.medium)
-Fails to change old new = (IsTrue old.tpm.told → OldOrNew old.tpm.spaces (spaces_with old.tpm.spaces change) new.tpm.spaces) × (new.flash.medium ≡ old.flash.medium) × (new.disk.medium ≡ old.disk.medium)
+Fails to (Record r) old new =
+    FailsToStore to.area r old.flash.medium new.flash.medium × (new.tpm.spaces ≡ old.tpm.spaces) × (new.disk.medium ≡ old.disk.medium)
+Fails to Table old new =
+    FailsToWrite to.table old.disk.medium new.disk.medium × (new.tpm.spaces ≡ old.tpm.spaces) × (new.flash.medium ≡ old.flash.medium)
+Fails to change old new =
+    (IsTrue old.tpm.told → OldOrNew old.tpm.spaces (spaces_with old.tpm.spaces change) new.tpm.spaces)
+    × (new.flash.medium ≡ old.flash.medium) × (new.disk.medium ≡ old.disk.medium)
 
 -- A fault between two changes: those before it are whole, and no other has begun. `base` changes came before them all.
 pub record EndsBetween (base : ℕ) (to : Targets) (changes : List Change) (fault : Fault) (old new : World) : Type 0 where
@@ -150,7 +154,8 @@ abbrev pub EndsAt : ℕ → Targets → NvState → List Change → Fault → Wo
 EndsAt base to state changes fault old new = EndsBetween base to changes fault old new ⊎ EndsIn base to state changes fault old new
 
 -- A part of a boot, which makes these changes. `base` changes came before them, and `state` is that of nvdata before them.
-pub record CarriesOut {T : Type 0} (base : ℕ) (to : Targets) (state : NvState) (changes : List Change) (old new : World) (result : Result T Fault) : Type 0 where
+pub record CarriesOut {T : Type 0} (base : ℕ) (to : Targets) (state : NvState) (changes : List Change) (old new : World)
+    (result : Result T Fault) : Type 0 where
   pub counts : CountsBoard (λ on. calls_on on state changes) old new result
   pub frame : Frame to.area old new
   pub made : OnOk result (IsMade to changes old new)

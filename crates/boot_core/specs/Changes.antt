@@ -80,4 +80,5 @@ calls_of state (Kernel bytes) = 1
 -- those of these changes on one device
 abbrev pub calls_on : Device → NvState → List Change → ℕ
 calls_on on state [] = 0
-calls_on on state (change ∷ rest) = (if same_device on (device_of change) then calls_of state change else 0) + calls_on on (state_with state change) rest
+calls_on on state (change ∷ rest) =
+    (if same_device on (device_of change) then calls_of state change else 0) + calls_on on (state_with state change) rest

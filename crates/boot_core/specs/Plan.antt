@@ -90,7 +90,8 @@ flags_change (Ok space) developer disable_dev = space_change space (booted_firmw
 -- flags and version
 abbrev pub version_change : Result (List ℕ) SpaceFault → Bool → Bool → Selection → ℕ → Option (List ℕ)
 version_change (Err fault) developer disable_dev selection version = None
-version_change (Ok space) developer disable_dev selection version = space_change space (raised_firmware space developer disable_dev selection version)
+version_change (Ok space) developer disable_dev selection version =
+    space_change space (raised_firmware space developer disable_dev selection version)
 
 -- a version that stands is not lower, and stands
 abbrev pub IsNoLower : Option ℕ → Option ℕ → Type 0
@@ -118,7 +119,13 @@ kernel_fact (Ok space) = None
 kernel_fact (Err fault) = Some (fault_number fault)
 
 abbrev pub facts_of : Switches → Found → ModeFacts
-facts_of sw found = record { recovery = sw.recovery; gbb = gbb_fact found.gbb; firmware = flags_fact found.firmware; kernel = kernel_fact found.kernel; nv = found.state.nv }
+facts_of sw found = record {
+  recovery = sw.recovery;
+  gbb = gbb_fact found.gbb;
+  firmware = flags_fact found.firmware;
+  kernel = kernel_fact found.kernel;
+  nv = found.state.nv;
+}
 
 -- ---- the plan of what was found, by its mode
 
@@ -137,9 +144,11 @@ good_plan_of found developer ok = record {
 -- the slot has a fault: the other one is to be tried next, or a recovery is asked for
 abbrev pub reboot_plan_of : Found → Bool → SlotFault → Plan
 reboot_plan_of found developer fault = record {
-  outcome = outcome.Reboot (reason_of fault) (subcode_of fault) (asks_for_recovery (Some (selection_of found.state.nv)) (booted_record found.state.nv));
+  outcome = outcome.Reboot (reason_of fault) (subcode_of fault)
+      (asks_for_recovery (Some (selection_of found.state.nv)) (booted_record found.state.nv));
   firmware = flags_change found.firmware developer (disables_dev found.state.nv);
-  nv = record_change found.state (failed_record (Some (selection_of found.state.nv)) (reason_of fault) (subcode_of fault) (booted_record found.state.nv));
+  nv = record_change found.state (failed_record (Some (selection_of found.state.nv)) (reason_of fault) (subcode_of fault)
+      (booted_record found.state.nv));
 }
 
 abbrev pub slot_plan_of : Found → Bool → Result SlotOk SlotFault → Plan
@@ -148,7 +157,8 @@ slot_plan_of found developer (Err fault) = reboot_plan_of found developer fault
 
 -- a screen asks for a recovery
 abbrev pub screen_plan_of : Found → ℕ → ℕ → Plan
-screen_plan_of found reason subcode = record { outcome = outcome.Screen reason subcode; firmware = None; nv = record_change found.state (screened_record found.state.nv) }
+screen_plan_of found reason subcode =
+    record { outcome = outcome.Screen reason subcode; firmware = None; nv = record_change found.state (screened_record found.state.nv) }
 
 -- what the check of the selected slot finds
 abbrev pub selected_answer : Found → World → Result SlotOk SlotFault

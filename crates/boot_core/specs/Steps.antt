@@ -51,7 +51,8 @@ pub record IsAreaIn (size area : ℕ) : Type 0 where
   pub inside : area + 8192 ≤ size
 
 -- Both spaces are read.
-pub record ReadsSpaces {E : Type 0} (old new : TpmState) (result : Result (Result (List ℕ) SpaceFault × Result (List ℕ) SpaceFault) E) : Type 0 where
+pub record ReadsSpaces {E : Type 0} (old new : TpmState)
+    (result : Result (Result (List ℕ) SpaceFault × Result (List ℕ) SpaceFault) E) : Type 0 where
   pub counters : Observed old.counters new.counters (is_err result)
   pub told : new.told ≡ old.told
   pub spaces : new.spaces ≡ old.spaces
@@ -87,7 +88,8 @@ pub record ReadsBoard (old new : World) (result : Result (Result Found MapFault)
 -- ---- the plan
 
 -- The selected slot of a board is verified. `body` is what the room hands out after it.
-pub record ChecksSlot (found : Found) (slot : Slot) (old new : World) (body : List ℕ) (result : Result (Result SlotOk SlotFault) Fault) : Type 0 where
+pub record ChecksSlot (found : Found) (slot : Slot) (old new : World) (body : List ℕ)
+    (result : Result (Result SlotOk SlotFault) Fault) : Type 0 where
   pub looks : Looks old new result
   pub locks : new.tpm.locks ≡ old.tpm.locks
   pub none_done : IfErr result (λ fault. fault.done ≡ 0)
@@ -101,7 +103,8 @@ pub record PlansSlot (found : Found) (developer : Bool) (old new : World) (body 
   pub looks : Looks old new result
   pub locks : new.tpm.locks ≡ old.tpm.locks
   pub none_done : IfErr result (λ fault. fault.done ≡ 0)
-  pub whole : IsTrue old.flash.medium.told → IsTrue old.hook.told → IfOk result (λ plan. plan ≡ slot_plan_of found developer (selected_answer found old))
+  pub whole : IsTrue old.flash.medium.told → IsTrue old.hook.told
+      → IfOk result (λ plan. plan ≡ slot_plan_of found developer (selected_answer found old))
   pub version : IfOk result (λ plan. IfSome plan.firmware (RaisesVersion found.firmware))
   pub holds : IsTrue old.flash.medium.told → IsTrue old.hook.told → IfOk result (λ plan. HoldsOutcome found old body plan.outcome)
 

@@ -5,8 +5,8 @@
 //! - `reading` reads, `planning` makes the plan of what was found, for which `slots` verifies the selected slot, and `plan` has its
 //!   rows; `changing` makes its changes, `locking` locks the spaces, and `booting` is the whole.
 //!
-//! In specs/, `Slots` is what is asked of a slot, `Plan` the plan as one function of the board, `Changes` what each change makes of it, `Carries` what a part of a
-//! boot promises, and `Boots` what a whole one does.
+//! In specs/, `Slots` is what is asked of a slot, `Plan` the plan as one function of the board, `Changes` what each change makes
+//! of it, `Carries` what a part of a boot promises, and `Boots` what a whole one does.
 #![tactic(auto)]
 
 mod booting;

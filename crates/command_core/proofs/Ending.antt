@@ -1,5 +1,5 @@
 -- What a user reads from the exit status of a boot.
-use Rattle.std.proofs.Common.{◌≡◌, ◌⊎◌, ℕ, List, Bool, true, false, Result, Ok, Err, refl, sym, ap, subst, ◌∙◌, arith, inl, inr, ◌≤◌}
+use Rattle.std.proofs.Common.{◌≡◌, ◌⊎◌, ℕ, List, Bool, true, false, Ok, Err, refl, sym, ap, subst, ◌∙◌, arith, inl, inr, ◌≤◌}
 use Rattle.std.specs.Prelude.{IsTrue}
 use Rattle.std.proofs.lemmas.Bool.{eq-eqb, ne_eqb}
 use Rattle.board_core.specs.declared.counters.Counters.{Counters}
@@ -24,7 +24,7 @@ use Rattle.command_core.specs.declared.answer.Answer.TheVariants as answers
 use Rattle.command_core.specs.declared.answer.Status.{Status}
 use Rattle.command_core.specs.Answers.{device_code, outcome_code, code_of}
 use Rattle.command_core.specs.Prints.{Prints}
-use Rattle.command_core.specs.Booting.{IsUnlocated, BootsLocated, BootWorks, BootRuns, FailedOnce, NeverFailed, IsNoFault, IsLocated, EndsVerified, EndsPlanned, BootEnds}
+use Rattle.command_core.specs.Booting.{IsUnlocated, BootsLocated, BootWorks, BootRuns, FailedOnce, NeverFailed, IsNoFault, IsLocated, EndsVerified, BootEnds}
 
 -- ---- what was counted
 
@@ -315,6 +315,8 @@ ends_by sw old new put put' status answers.Usage works prints = absurd works
 ends_by sw old new put put' status (answers.BadFlash fault) works prints = absurd works
 ends_by sw old new put put' status (answers.WrongSize d) works prints = absurd works
 ends_by sw old new put put' status answers.HookFull works prints = absurd works
+ends_by sw old new put put' status (answers.RefusedCgpt refusal) works prints = absurd works
+ends_by sw old new put put' status answers.CgptNotBuilt works prints = absurd works
 ends_by sw old new put put' status answers.OutOfMemory works prints = ends_full sw old new put put' status works prints
 ends_by sw old new put put' status (answers.Unopened fault) works prints = absurd works
 

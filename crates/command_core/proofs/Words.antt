@@ -1,5 +1,5 @@
 -- A list of one word, or of two, that are given texts.
-use Rattle.std.proofs.Common.{◌≡◌, ℕ, ◌<◌, ◌≤◌, ◌^◌, Bool, true, List, [], ◌∷◌, length, get_or, drop, map, sym, ap, ◌∙◌, arith}
+use Rattle.std.proofs.Common.{◌≡◌, ℕ, ◌<◌, ◌≤◌, ◌^◌, Bool, true, false, true≢false, List, [], ◌∷◌, length, get_or, drop, map, sym, ap, ◌∙◌, arith}
 use Rattle.std.specs.Prelude.{IsTrue, IfSome, Option, Some, None, Result, Ok, Err, decimal}
 use Rattle.std.specs.Str.{bytes_eq}
 use Rattle.std.specs.Str.Parse.{ParsesUnsigned}
@@ -48,6 +48,27 @@ word_then {X = X} text_of (x ∷ xs) others word text texts same some is_word re
       λ yes. ap (λ (w : List ℕ). w ∷ map text_of xs) head ∙ ap (λ (ws : List (List ℕ)). text ∷ ws) (ap (map text_of) (sym rest) ∙ both.0 yes),
       λ is_text. both.1 (ap (map text_of) rest ∙ ap (drop {A = List ℕ} 1) is_text),
     )
+
+-- the first word is a given text
+pub behind_word : {X : Type 0} (text_of : X → List ℕ) (words others : List X) (word : X) (text : List ℕ) → 1 ≤ length words → word ≡ get_or words 0 word → others ≡ drop 1 words
+    → bytes_eq (text_of word) text ≡ true → map text_of words ≡ text ∷ map text_of others
+behind_word text_of [] others word text some is_word rest test = absurd (omega arith)
+behind_word text_of (x ∷ xs) others word text some is_word rest test =
+    let head : text_of x ≡ text = ap text_of (sym is_word) ∙ (bytes_eq-Decides (text_of word) text).0 test in
+    ap (λ (w : List ℕ). w ∷ map text_of xs) head ∙ ap (λ (ws : List (List ℕ)). text ∷ ws) (ap (map text_of) (sym rest))
+
+-- the first word is another one, or there is none
+pub other_word : {X : Type 0} (text_of : X → List ℕ) (words : List X) (word : X) (text : List ℕ) (rest : List (List ℕ)) → 1 ≤ length words → word ≡ get_or words 0 word
+    → bytes_eq (text_of word) text ≡ false → map text_of words ≡ text ∷ rest → ⊥
+unfolding head_of_list
+other_word text_of [] word text rest some is_word test is = omega (arith, some)
+other_word text_of (x ∷ xs) word text rest some is_word test is =
+    let same : text_of word ≡ text = ap text_of is_word ∙ ap head_of_list is in
+    true≢false (sym ((bytes_eq-Decides (text_of word) text).1 same) ∙ test)
+
+pub no_word : {X : Type 0} (text_of : X → List ℕ) (words : List X) (text : List ℕ) (rest : List (List ℕ)) → length words < 1 → map text_of words ≡ text ∷ rest → ⊥
+no_word text_of [] text rest few is = cc
+no_word text_of (x ∷ xs) text rest few is = omega (arith, few)
 
 -- two words, of which the second is a number
 pub number_then : {X : Type 0} (text_of : X → List ℕ) (words : List X) (first second : X) (text : List ℕ) (found : Option ℕ) → 2 ≤ length words → length words < 3 → first ≡ get_or words 0 first → second ≡ get_or words 1 second

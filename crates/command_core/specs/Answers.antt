@@ -6,6 +6,8 @@ use Rattle.board_core.specs.declared.device.Device.{Device}
 use Rattle.board_core.specs.declared.device.Device.TheVariants as device
 use Rattle.board_file.specs.declared.open_fault.OpenFault.TheVariants.{CannotOpen, Memory}
 use Rattle.board_file.specs.Files.{file_name}
+use Rattle.cgpt_core.specs.declared.call.WordFault.{WordFault}
+use Rattle.cgpt_core.specs.declared.call.WordFault.TheVariants as fault
 use Rattle.rom_core.specs.declared.fault.MapFault.{MapFault}
 use Rattle.rom_core.specs.Faults.{map_fault_number}
 use Rattle.text_core.specs.Numbers.{hex_number}
@@ -13,6 +15,8 @@ use Rattle.boot_core.specs.declared.outcome.Outcome.{Outcome}
 use Rattle.boot_core.specs.declared.outcome.Outcome.TheVariants as outcome
 use Rattle.command_core.specs.declared.answer.Answer.{Answer}
 use Rattle.command_core.specs.declared.answer.Answer.TheVariants as answer
+use Rattle.command_core.specs.declared.answer.CgptRefusal.{CgptRefusal}
+use Rattle.command_core.specs.declared.answer.CgptRefusal.TheVariants as refusal
 
 -- a line with its end
 abbrev pub line_of : List ℕ → List ℕ
@@ -33,6 +37,12 @@ device_name device.Disk = codes "disk"
 device_name device.Stick = codes "stick"
 device_name device.Hook = codes "hook"
 
+-- why a command on a partition table was refused
+abbrev pub refusal_name : CgptRefusal → List ℕ
+refusal_name refusal.BadValue = codes "BadValue"
+refusal_name refusal.NoTable = codes "NoTable"
+refusal_name refusal.NoEntry = codes "NoEntry"
+
 abbrev pub bad_flash_text : MapFault → List ℕ
 bad_flash_text fault = line_of (codes "bad flash " ++ decimal (map_fault_number fault))
 
@@ -46,11 +56,13 @@ requested_digit true = codes "1"
 
 abbrev pub reboot_line : ℕ → ℕ → Bool → List ℕ
 reboot_line reason subcode requested =
-    line_of (codes "reboot reason " ++ decimal reason ++ codes " subcode " ++ decimal subcode ++ codes " requested " ++ requested_digit requested)
+    line_of (codes "reboot reason " ++ decimal reason ++ codes " subcode " ++ decimal subcode ++ codes " requested "
+    ++ requested_digit requested)
 
 -- what a boot comes to
 abbrev pub outcome_text : Outcome → List ℕ
-outcome_text (outcome.Verified developer slot version len) = line_of (mode_name developer) ++ line_of (slot_name slot) ++ firmware_line version len
+outcome_text (outcome.Verified developer slot version len) =
+    line_of (mode_name developer) ++ line_of (slot_name slot) ++ firmware_line version len
 outcome_text (outcome.Reboot reason subcode requested) = reboot_line reason subcode requested
 outcome_text (outcome.Screen reason subcode) = line_of (codes "screen reason " ++ decimal reason ++ codes " subcode " ++ decimal subcode)
 outcome_text outcome.ManualRecovery = line_of (codes "not built recovery")
@@ -64,6 +76,8 @@ text_of (answer.Failed device) = line_of (codes "fault " ++ device_name device)
 text_of (answer.BadFlash fault) = bad_flash_text fault
 text_of (answer.WrongSize device) = line_of (codes "refused make size " ++ device_name device)
 text_of answer.HookFull = line_of (codes "refused make hook full")
+text_of (answer.RefusedCgpt why) = line_of (codes "refused cgpt " ++ refusal_name why)
+text_of answer.CgptNotBuilt = line_of (codes "not built cgpt")
 text_of answer.OutOfMemory = line_of (codes "out of memory")
 text_of (answer.Unopened (CannotOpen file)) = line_of (codes "cannot open " ++ file_name file)
 text_of (answer.Unopened Memory) = line_of (codes "out of memory")
@@ -90,8 +104,17 @@ code_of (answer.Booted outcome) = outcome_code outcome
 code_of (answer.Faulted fault) = device_code fault.device
 code_of (answer.Failed device) = device_code device
 code_of (answer.BadFlash fault) = 11
+code_of (answer.RefusedCgpt why) = 14
 code_of answer.OutOfMemory = 15
 code_of (answer.Unopened Memory) = 15
 code_of (answer.WrongSize device) = 16
 code_of answer.HookFull = 16
 code_of (answer.Unopened (CannotOpen file)) = 17
+code_of answer.CgptNotBuilt = 19
+
+-- ---- words that are refused
+
+abbrev pub answer_of_words : WordFault → Answer
+answer_of_words fault.Usage = answer.Usage
+answer_of_words fault.BadValue = answer.RefusedCgpt refusal.BadValue
+answer_of_words fault.Memory = answer.OutOfMemory

@@ -2,9 +2,7 @@
 use Rattle.std.specs.Prelude.{◌≡◌, ◌⊎◌, ℕ, Bool, true, false, IsTrue, List, Result, Ok, Err}
 use Rattle.fwsel_core.specs.declared.slot.Slot.{Slot}
 use Rattle.board_core.specs.declared.counters.Counters.{Counters}
-use Rattle.board_core.specs.declared.device.Device.{Device}
 use Rattle.board_core.specs.declared.device.Device.TheVariants as device
-use Rattle.board_core.specs.declared.device.Failed.{Failed}
 use Rattle.board_core.specs.declared.device.Fault.{Fault}
 use Rattle.board_core.specs.Counters.{raised, Observed}
 use Rattle.board_core.specs.Flash.{FlashMedium, FlashState}

@@ -1,24 +1,67 @@
 -- The words of each command.
-use Rattle.std.specs.Prelude.{◌≡◌, ℕ, ◌<◌, ◌^◌, true, false, List, [], ◌∷◌, codes, decimal, Option, Some, None}
+use Rattle.std.specs.Prelude.{◌≡◌, ℕ, ◌<◌, ◌^◌, true, false, List, [], ◌∷◌, codes, decimal, Option, Some, None, Result, Ok, Err}
+use Rattle.cgpt_core.specs.declared.call.WordFault.{WordFault}
+use Rattle.cgpt_core.specs.declared.call.WordFault.TheVariants.{Usage, BadValue, Memory}
+use Rattle.cgpt_core.specs.declared.call.CgptDrive.{CgptDrive}
+use Rattle.cgpt_core.specs.declared.call.CgptDrive.TheVariants.{Disk, Stick}
+use Rattle.cgpt_core.specs.Words.{call_of}
 use Rattle.command_core.specs.declared.command.Command.{Command}
-use Rattle.command_core.specs.declared.command.Command.TheVariants.{Boot, ShowFlash, Make}
+use Rattle.command_core.specs.declared.command.Command.TheVariants.{Boot, ShowFlash, Make, ShowPartition, Cgpt}
 
-abbrev pub words_of : Command → List (List ℕ)
-words_of (Boot false) = codes "boot" ∷ []
-words_of (Boot true) = codes "boot" ∷ codes "recovery" ∷ []
-words_of ShowFlash = codes "futility" ∷ codes "show" ∷ codes "flash" ∷ []
-words_of (Make number) = codes "make" ∷ decimal number ∷ []
+-- words behind the name of the tool for partition tables
+abbrev pub cgpt_words : List (List ℕ) → List (List ℕ)
+cgpt_words rest = codes "cgpt" ∷ rest
 
--- the number of a machine fits a u32
+-- the words that show a partition
+abbrev pub drive_word : CgptDrive → List ℕ
+drive_word Disk = codes "disk"
+drive_word Stick = codes "stick"
+
+abbrev pub partition_words : CgptDrive → ℕ → List (List ℕ)
+partition_words drive index = codes "futility" ∷ codes "show" ∷ drive_word drive ∷ decimal index ∷ []
+
+-- the words are those of a command
+abbrev pub AreWordsOf : List (List ℕ) → Command → Type 0
+AreWordsOf words (Boot false) = words ≡ codes "boot" ∷ []
+AreWordsOf words (Boot true) = words ≡ codes "boot" ∷ codes "recovery" ∷ []
+AreWordsOf words ShowFlash = words ≡ codes "futility" ∷ codes "show" ∷ codes "flash" ∷ []
+AreWordsOf words (Make number) = words ≡ codes "make" ∷ decimal number ∷ []
+AreWordsOf words (ShowPartition drive index) = words ≡ partition_words drive index
+AreWordsOf words (Cgpt call) = (rest : List (List ℕ)) × (words ≡ cgpt_words rest) × (call_of rest ≡ Ok call)
+
+-- the number of a machine and the index of a partition fit a u32
 abbrev pub IsInRange : Command → Type 0
 IsInRange (Make number) = number < 2 ^ 32
+IsInRange (ShowPartition drive index) = index < 2 ^ 32
 IsInRange other = Unit {0}
 
 -- the words are a command
 abbrev pub IsCommand : List (List ℕ) → Type 0
-IsCommand words = (command : Command) × IsInRange command × (words ≡ words_of command)
+IsCommand words = (command : Command) × IsInRange command × AreWordsOf words command
 
--- the command that words ask for
-abbrev pub IsRead : List (List ℕ) → Option Command → Type 0
-IsRead words (Some command) = words ≡ words_of command
-IsRead words None = IsCommand words → ⊥
+-- the words are those of a command on a partition table, but for a value that is out of its range
+abbrev pub HasBadValue : List (List ℕ) → Type 0
+HasBadValue words = (rest : List (List ℕ)) × (words ≡ cgpt_words rest) × (call_of rest ≡ Err BadValue)
+
+-- What words are read as. Memory is taken only for a command on a partition table.
+abbrev pub IsRead : List (List ℕ) → Result Command WordFault → Type 0
+IsRead words (Ok command) = AreWordsOf words command
+IsRead words (Err Usage) = (IsCommand words → ⊥) × (HasBadValue words → ⊥)
+IsRead words (Err BadValue) = HasBadValue words
+IsRead words (Err Memory) = (rest : List (List ℕ)) × (words ≡ cgpt_words rest)
+
+-- ---- parts
+
+abbrev pub IsCgpt : Command → Type 0
+IsCgpt (Cgpt call) = Unit {0}
+IsCgpt other = ⊥
+
+-- what words are read as where they are no command on a partition table
+abbrev pub IsReadPlain : List (List ℕ) → Option Command → Type 0
+IsReadPlain words (Some command) = AreWordsOf words command
+IsReadPlain words None = (command : Command) → IsInRange command → (IsCgpt command → ⊥) → AreWordsOf words command → ⊥
+
+-- the words are those of a command that shows a partition
+abbrev pub AreShowWords : List (List ℕ) → Command → Type 0
+AreShowWords words (ShowPartition drive index) = words ≡ partition_words drive index
+AreShowWords words other = ⊥

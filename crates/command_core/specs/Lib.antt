@@ -4,4 +4,6 @@ pub mod Prints
 pub mod Booting
 pub mod Showing
 pub mod Making
+pub mod Partitions
+pub mod KernelShowing
 pub mod Run

@@ -1,5 +1,5 @@
 -- How an answer is printed.
-use Rattle.std.specs.Prelude.{◌≡◌, ℕ, ◌≤◌, IsTrue, List, ◌++◌, length, take, ◌==◌}
+use Rattle.std.specs.Prelude.{◌≡◌, ℕ, ◌≤◌, IsTrue, ◌++◌, length, take, ◌==◌}
 use Rattle.board_core.specs.Counters.{CountsFaults}
 use Rattle.board_core.specs.Streams.{StreamState}
 use Rattle.command_core.specs.declared.answer.Answer.{Answer}
@@ -13,4 +13,5 @@ pub record Prints (answer : Answer) (old new : StreamState) (status : Status) : 
   pub told : new.told ≡ old.told
   pub code : (status.code ≡ 9 → ⊥) → status.code ≡ code_of answer
   pub whole : IsTrue old.told → (status.code ≡ 9 → ⊥) → new.bytes ≡ old.bytes ++ text_of answer
-  pub front : IsTrue old.told → status.code ≡ 9 → (count : ℕ) × (count ≤ length (text_of answer)) × (new.bytes ≡ old.bytes ++ take count (text_of answer))
+  pub front : IsTrue old.told → status.code ≡ 9 → (count : ℕ) × (count ≤ length (text_of answer))
+      × (new.bytes ≡ old.bytes ++ take count (text_of answer))

@@ -22,7 +22,8 @@ pub record LocatesAndShows (old new : FlashState) (put put' : StreamState) (resu
   pub faults : CountsFaults put.faults put'.faults (is_write result)
   pub told : put'.told ≡ put.told
   -- what was put is the text of the flash, or a beginning of it where the sink failed, or nothing
-  pub texts : IsTrue old.medium.told → IsTrue put.told → (result ≡ Err Device → ⊥) → (at : ℕ) × IsLocated old.medium at × PutsText at old.medium put.bytes put'.bytes result
+  pub texts : IsTrue old.medium.told → IsTrue put.told → (result ≡ Err Device → ⊥) → (at : ℕ) × IsLocated old.medium at
+      × PutsText at old.medium put.bytes put'.bytes result
   -- whatever the flash tells, nothing where it failed or its map has a fault
   pub nothing : IsTrue put.told → IsUnshown result → put'.bytes ≡ put.bytes
 

@@ -1,13 +1,25 @@
 // What a command came to, with its text and its exit status.
 ghost use Rattle.std.specs.Prelude.{◌≡◌, ◌≤◌, ◌++◌, length};
-ghost use Rattle.command_core.specs.Answers.{line_of, reboot_line, text_of, code_of, device_name, device_code, outcome_text, outcome_code};
+ghost use Rattle.command_core.specs.Answers.{line_of, reboot_line, text_of, code_of, device_name, device_code, refusal_name, outcome_text, outcome_code, answer_of_words};
 
 use board_core::{Device, Fault};
 use board_file::OpenFault;
 use boot_core::Outcome;
+use cgpt_core::WordFault;
 use fwsel_core::Slot;
 use rom_core::MapFault;
 use text_core::Text;
+
+/// Why a command on a partition table was refused.
+#[derive(Clone, Copy, Debug, PartialEq, Eq)]
+pub enum CgptRefusal {
+    /// A value is out of its range.
+    BadValue,
+    /// Neither copy of the table is good.
+    NoTable,
+    /// There is no entry of that index, or it is unused.
+    NoEntry,
+}
 
 /// What a command came to, before it is printed.
 #[derive(Clone, Copy, Debug, PartialEq, Eq)]
@@ -26,6 +38,10 @@ pub enum Answer {
     WrongSize(Device),
     /// The list of accepted signatures has no room for those of the machine to be made.
     HookFull,
+    /// A command on a partition table was refused.
+    RefusedCgpt(CgptRefusal),
+    /// A command on a partition table that does not stand yet.
+    CgptNotBuilt,
     /// There was no memory.
     OutOfMemory,
     /// The board was not opened.
@@ -55,6 +71,17 @@ fn name_of(device: Device) -> &'static [u8]
     }
 }
 
+fn name_of_refusal(refusal: CgptRefusal) -> &'static [u8]
+    ensures name { result.now ≡ refusal_name refusal }
+    ensures short { length result.now ≤ 8 }
+{
+    match refusal {
+        CgptRefusal::BadValue => b"BadValue",
+        CgptRefusal::NoTable => b"NoTable",
+        CgptRefusal::NoEntry => b"NoEntry",
+    }
+}
+
 // The exit status of a fault of a device.
 fn code_of_device(device: Device) -> u8
     ensures { result ≡ device_code device }
@@ -80,6 +107,17 @@ fn code_of_outcome(outcome: Outcome) -> u8
 }
 
 impl Answer {
+    /// What words that are refused come to.
+    pub fn of_words(fault: WordFault) -> Answer
+        ensures { result ≡ answer_of_words fault }
+    {
+        match fault {
+            WordFault::Usage => Answer::Usage,
+            WordFault::BadValue => Answer::RefusedCgpt(CgptRefusal::BadValue),
+            WordFault::Memory => Answer::OutOfMemory,
+        }
+    }
+
     /// The exit status, where the text could be printed.
     pub fn code(&self) -> u8
         ensures { result ≡ code_of self.now }
@@ -90,9 +128,11 @@ impl Answer {
             Answer::Faulted(fault) => code_of_device(fault.device),
             Answer::Failed(device) => code_of_device(*device),
             Answer::BadFlash(_) => 11,
+            Answer::RefusedCgpt(_) => 14,
             Answer::OutOfMemory | Answer::Unopened(OpenFault::Memory) => 15,
             Answer::WrongSize(_) | Answer::HookFull => 16,
             Answer::Unopened(OpenFault::CannotOpen(_)) => 17,
+            Answer::CgptNotBuilt => 19,
         }
     }
 
@@ -108,6 +148,8 @@ impl Answer {
             Answer::BadFlash(fault) => bad_flash_text(*fault),
             Answer::WrongSize(device) => named(b"refused make size ", name_of(*device)),
             Answer::HookFull => line(b"refused make hook full"),
+            Answer::RefusedCgpt(refusal) => named(b"refused cgpt ", name_of_refusal(*refusal)),
+            Answer::CgptNotBuilt => line(b"not built cgpt"),
             Answer::OutOfMemory | Answer::Unopened(OpenFault::Memory) => line(b"out of memory"),
             Answer::Unopened(OpenFault::CannotOpen(file)) => {
                 named(b"cannot open ", file.name().as_bytes())

@@ -1,23 +1,62 @@
 // The words after the program's name, as the command that they ask for.
-ghost use Rattle.std.specs.Prelude.{◌≡◌, ◌≤◌, ◌<◌, ◌^◌, ◌↔◌, ◌∷◌, [], ℕ, IsTrue, IfSome, IfNone, map, string_bytes, codes, decimal};
-ghost use Rattle.command_core.specs.Commands.{words_of, IsCommand, IsRead};
+ghost use Rattle.std.specs.Prelude.{◌≡◌, ◌≤◌, ◌<◌, ◌^◌, ◌↔◌, ◌∷◌, [], ℕ, List, IsTrue, IfSome, IfNone, map, string_bytes, codes, decimal};
+ghost use Rattle.cgpt_core.specs.declared.call.CgptDrive.{CgptDrive};
+ghost use Rattle.command_core.specs.Commands.{partition_words, AreShowWords, IsRead, IsReadPlain};
 
+use cgpt_core::{CgptCall, CgptDrive, WordFault};
+use std::alloc::Global;
 use text_core::Text;
 
 /// A command of the program.
 #[derive(Clone, Copy, Debug, PartialEq, Eq)]
 pub enum Command {
     /// One boot, with the recovery switch on or off.
-    Boot { recovery: bool },
+    Boot {
+        recovery: bool,
+    },
     /// The firmware of the flash as text.
     ShowFlash,
     /// The images of the machine of this number.
     Make(u32),
+    /// The kernel in a partition of a drive, as text.
+    ShowPartition {
+        /// The drive.
+        drive: CgptDrive,
+        /// The index of the partition; entries have those from 1 to 128.
+        index: u32,
+    },
+    /// A command on the partition table of a drive.
+    Cgpt(CgptCall),
 }
 
-/// The command of these words; none where they are no command.
-pub fn command_of(words: &[String]) -> Option<Command>
+/// The command of these words.
+///
+/// `Usage`: exactly where they are no command, unless one of their values is out of its range. `BadValue`: exactly where they are
+/// those of a command on a partition table but for such a value. `Memory`: there was no memory to read the words of one.
+pub fn command_of(alloc: Global, words: &[String]) -> Result<Command, WordFault>
     ensures { IsRead (map string_bytes words.now) result }
+{
+    let Some(rest) = behind(words, b"cgpt") else {
+        return plain_command(words).ok_or(WordFault::Usage);
+    };
+    let call = cgpt_core::words(alloc, rest)?;
+    Ok(Command::Cgpt(call))
+}
+
+// The words behind the first one, where that is this one.
+fn behind<'a>(words: &'a [String], first: &[u8]) -> Option<&'a [String]>
+    ensures some { IfSome result (λ rest. map string_bytes words.now ≡ first.now ∷ map string_bytes rest.now) }
+    ensures none { IfNone result ((rest : List (List ℕ)) → map string_bytes words.now ≡ first.now ∷ rest → ⊥) }
+{
+    match words {
+        [word, rest @ ..] if word.as_bytes() == first => Some(rest),
+        _ => None,
+    }
+}
+
+// The command of these words, where it is none on a partition table.
+fn plain_command(words: &[String]) -> Option<Command>
+    ensures { IsReadPlain (map string_bytes words.now) result }
 {
     if is_one(words, b"boot") {
         Some(Command::Boot { recovery: false })
@@ -25,8 +64,10 @@ pub fn command_of(words: &[String]) -> Option<Command>
         Some(Command::Boot { recovery: true })
     } else if are_three(words, b"futility", b"show", b"flash") {
         Some(Command::ShowFlash)
+    } else if let Some(number) = number_behind(words, b"make") {
+        Some(Command::Make(number))
     } else {
-        made_number(words).map(Command::Make)
+        partition_command(words)
     }
 }
 
@@ -58,13 +99,34 @@ fn are_three(words: &[String], first: &[u8], second: &[u8], third: &[u8]) -> boo
     }
 }
 
-// The number of a machine that is to be made.
-fn made_number(words: &[String]) -> Option<u32>
-    ensures some { IfSome result (λ number. map string_bytes words.now ≡ codes "make" ∷ decimal number ∷ []) }
-    ensures none { IfNone result ((number : ℕ) → number < 2 ^ 32 → map string_bytes words.now ≡ codes "make" ∷ decimal number ∷ [] → ⊥) }
+// The command that shows a partition.
+fn partition_command(words: &[String]) -> Option<Command>
+    ensures some { IfSome result (AreShowWords (map string_bytes words.now)) }
+    ensures none { IfNone result ((drive : CgptDrive) → (index : ℕ) → index < 2 ^ 32
+        → map string_bytes words.now ≡ partition_words drive index → ⊥) }
+{
+    let show = behind(words, b"futility")?;
+    let drive = behind(show, b"show")?;
+    if let Some(index) = number_behind(drive, b"disk") {
+        return Some(Command::ShowPartition {
+            drive: CgptDrive::Disk,
+            index,
+        });
+    }
+    let index = number_behind(drive, b"stick")?;
+    Some(Command::ShowPartition {
+        drive: CgptDrive::Stick,
+        index,
+    })
+}
+
+// The number behind a word, where there are these two words.
+fn number_behind(words: &[String], first: &[u8]) -> Option<u32>
+    ensures some { IfSome result (λ number. map string_bytes words.now ≡ first.now ∷ decimal number ∷ []) }
+    ensures none { IfNone result ((number : ℕ) → number < 2 ^ 32 → map string_bytes words.now ≡ first.now ∷ decimal number ∷ [] → ⊥) }
 {
     match words {
-        [word, number] if word.as_bytes() == b"make".as_slice() => number_in(number.as_str()),
+        [word, number] if word.as_bytes() == first => number_in(number.as_str()),
         _ => None,
     }
 }

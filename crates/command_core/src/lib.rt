@@ -1,18 +1,21 @@
 //! The commands of the program over any board: from the words to the printed answer and the exit status.
 //!
 //! - `command` has the commands and their words, and `answer` what each came to, with its text and its exit status.
-//! - `booting`, `making` and `showing` work a command on a board, and `run` any of them; `printing` puts the answer.
+//! - `booting`, `kernel_showing`, `making`, `partitions` and `showing` work a command on a board, and `run` any of them;
+//!   `printing` puts the answer.
 #![tactic(auto)]
 
 mod answer;
 mod booting;
 mod command;
+mod kernel_showing;
 mod making;
+mod partitions;
 mod printing;
 mod run;
 mod showing;
 
-pub use answer::{Answer, Status};
+pub use answer::{Answer, CgptRefusal, Status};
 pub use command::{Command, command_of};
 pub use printing::print;
 pub use run::{run_command, run_words};

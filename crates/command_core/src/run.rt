@@ -1,5 +1,5 @@
 // The top call: a command by its words, and its answer in print.
-ghost use Rattle.std.specs.Prelude.{◌≡◌, map, string_bytes, Some};
+ghost use Rattle.std.specs.Prelude.{◌≡◌, map, string_bytes, Ok};
 ghost use Rattle.board_core.specs.World.{world};
 ghost use Rattle.boot_core.specs.Carries.{IsSettled};
 ghost use Rattle.command_core.specs.Run.{RunsBy, Runs};
@@ -7,14 +7,16 @@ ghost use Rattle.command_core.specs.Run.{RunsBy, Runs};
 use crate::answer::{Answer, Status};
 use crate::booting::run_boot;
 use crate::command::{Command, command_of};
+use crate::kernel_showing::run_show_partition;
 use crate::making::run_make;
+use crate::partitions::run_cgpt;
 use crate::printing::print;
 use crate::showing::run_show;
 use board_core::{Disk, Flash, Hook, Platform, Sink, Tpm};
 use std::alloc::Global;
 
 /// Works the command that these words name, which follow the program's name, on a board on whose disks nothing is pending,
-/// and prints its answer. Other words leave the board as it is.
+/// and prints its answer. Words that are refused leave the board as it is.
 pub fn run_words<F: Flash, T: Tpm, D: Disk, E: Disk, H: Hook, O: Sink>(
     alloc: Global,
     words: &[String],
@@ -25,10 +27,9 @@ pub fn run_words<F: Flash, T: Tpm, D: Disk, E: Disk, H: Hook, O: Sink>(
     ensures { Runs (map string_bytes words.now) (world F.state T.state H.state p.old) (world F.state T.state H.state p.new)
         (O.state out.old) (O.state out.new) result }
 {
-    let found = command_of(words);
-    match found {
-        None => print(out, &Answer::Usage),
-        Some(command) => run_command(alloc, command, p, out),
+    match command_of(alloc, words) {
+        Ok(command) => run_command(alloc, command, p, out),
+        Err(fault) => print(out, &Answer::of_words(fault)),
     }
 }
 
@@ -40,7 +41,7 @@ pub fn run_command<F: Flash, T: Tpm, D: Disk, E: Disk, H: Hook, O: Sink>(
     out: &mut O,
 ) -> Status
     requires { IsSettled (world F.state T.state H.state p.old) }
-    ensures runs { RunsBy (Some command) (world F.state T.state H.state p.old) (world F.state T.state H.state p.new) (O.state out.old)
+    ensures runs { RunsBy (Ok command) (world F.state T.state H.state p.old) (world F.state T.state H.state p.new) (O.state out.old)
         (O.state out.new) result }
     ensures not_usage { result.code ≡ 1 → ⊥ }
 {
@@ -48,5 +49,9 @@ pub fn run_command<F: Flash, T: Tpm, D: Disk, E: Disk, H: Hook, O: Sink>(
         Command::Boot { recovery } => run_boot(alloc, p, recovery, out),
         Command::ShowFlash => run_show(p, out),
         Command::Make(number) => run_make(p, number, out),
+        Command::ShowPartition { drive, index } => {
+            run_show_partition(alloc, p, drive, index, out)
+        }
+        Command::Cgpt(call) => run_cgpt(alloc, p, &call, out),
     }
 }

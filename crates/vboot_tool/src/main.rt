@@ -3,10 +3,8 @@
 //! `opening` opens the board over these images. What a command does to it and prints is `command_core`'s.
 #![tactic(auto)]
 
-ghost use Rattle.std.specs.Prelude.{◌≡◌, map, string_bytes};
-ghost use Rattle.command_core.specs.declared.answer.Answer.TheVariants.{Usage};
-ghost use Rattle.command_core.specs.Commands.{IsCommand};
-ghost use Rattle.command_core.specs.Prints.{Prints};
+ghost use Rattle.std.specs.Prelude.{map, string_bytes};
+ghost use Rattle.vboot_tool.specs.Starting.{StartsBy};
 
 mod opening;
 
@@ -27,14 +25,14 @@ fn words_of<R: Env + AllocGlobal>(rt: &R) -> io::Result<Vec<String>> {
     Ok(words)
 }
 
-// Runs the command of these words over the files of the current folder.
+// Runs the command of these words over the files of the current folder. Words that are refused open none.
 fn run_here<R: Files + AllocGlobal, O: Sink>(rt: &R, words: &[String], out: &mut O) -> Status
-    ensures usage { (IsCommand (map string_bytes words.now) → ⊥) → Prints Usage (O.state out.old) (O.state out.new) result }
-    ensures only_usage { result.code ≡ 1 → IsCommand (map string_bytes words.now) → ⊥ }
+    ensures { StartsBy (map string_bytes words.now) (O.state out.old) (O.state out.new) result }
 {
-    let Some(command) = command_of(words) else {
+    let command = match command_of(rt.alloc(), words) {
+        Ok(command) => command,
         // Before any image is made.
-        return print(out, &Answer::Usage);
+        Err(fault) => return print(out, &Answer::of_words(fault)),
     };
     match open_board(rt) {
         Ok(mut board) => run_command(rt.alloc(), command, &mut board, out),

@@ -1,0 +1,72 @@
+// The command on the partition table of a drive.
+ghost use Rattle.std.specs.Prelude.{◌≡◌};
+ghost use Rattle.board_core.specs.World.{world};
+ghost use Rattle.boot_core.specs.Carries.{IsSettled};
+ghost use Rattle.command_core.specs.Partitions as spec;
+ghost use Rattle.command_core.specs.Partitions.{EndsCgpt, WorksOnDrive, WorksTable};
+
+use crate::answer::{Answer, CgptRefusal, SINK_FAULT, Status};
+use crate::printing::print;
+use board_core::{Device, Disk, Flash, Hook, Platform, Sink, Tpm};
+use cgpt_core::{CgptCall, CgptDrive, CgptFault, cgpt};
+use gpt_core::GptRoom;
+use std::alloc::Global;
+
+/// Works a command on the partition table of the drive that the call names, and answers the exit status. Its memory is taken
+/// before the first call of a device.
+pub fn run_cgpt<F: Flash, T: Tpm, D: Disk, E: Disk, H: Hook, O: Sink>(
+    alloc: Global,
+    p: &mut Platform<F, T, D, E, H>,
+    call: &CgptCall,
+    out: &mut O,
+) -> Status
+    requires { IsSettled (world F.state T.state H.state p.old) }
+    ensures { WorksTable call.now (world F.state T.state H.state p.old) (world F.state T.state H.state p.new) (O.state out.old)
+        (O.state out.new) result }
+{
+    let Ok(mut room) = GptRoom::reserve(alloc) else {
+        return print(out, &Answer::OutOfMemory);
+    };
+    let answer = work_cgpt(p, &mut room, call, out);
+    end_cgpt(out, call.drive, answer)
+}
+
+// Works a command on the drive that the call names.
+fn work_cgpt<F: Flash, T: Tpm, D: Disk, E: Disk, H: Hook, O: Sink>(
+    p: &mut Platform<F, T, D, E, H>,
+    room: &mut GptRoom,
+    call: &CgptCall,
+    out: &mut O,
+) -> Result<(), CgptFault>
+    requires { IsSettled (world F.state T.state H.state p.old) }
+    ensures { WorksOnDrive call.now (world F.state T.state H.state p.old) (world F.state T.state H.state p.new) (O.state out.old)
+        (O.state out.new) result }
+{
+    match call.drive {
+        CgptDrive::Disk => cgpt(&mut p.disk, room, call, out),
+        CgptDrive::Stick => cgpt(&mut p.stick, room, call, out),
+    }
+}
+
+// Ends a command, and answers the exit status.
+fn end_cgpt<O: Sink>(out: &mut O, drive: CgptDrive, answer: Result<(), CgptFault>) -> Status
+    ensures ends { EndsCgpt drive answer (O.state out.old) (O.state out.new) result }
+    ensures not_usage { result.code ≡ 1 → ⊥ }
+{
+    match answer {
+        Ok(()) => Status { code: 0 },
+        Err(CgptFault::Write) => Status { code: SINK_FAULT },
+        Err(CgptFault::Device) => print(out, &Answer::Failed(device_of(drive))),
+        Err(CgptFault::NoTable) => print(out, &Answer::RefusedCgpt(CgptRefusal::NoTable)),
+        Err(CgptFault::NotBuilt) => print(out, &Answer::CgptNotBuilt),
+    }
+}
+
+pub(crate) fn device_of(drive: CgptDrive) -> Device
+    ensures { result ≡ spec.device_of drive }
+{
+    match drive {
+        CgptDrive::Disk => Device::Disk,
+        CgptDrive::Stick => Device::Stick,
+    }
+}

@@ -1,0 +1,16 @@
+-- What comes of words before and after the board is opened.
+use Rattle.std.specs.Prelude.{◌≡◌, ◌⊎◌, ℕ, List, Err}
+use Rattle.board_core.specs.Streams.{StreamState}
+use Rattle.cgpt_core.specs.declared.call.WordFault.{WordFault}
+use Rattle.command_core.specs.declared.answer.Status.{Status}
+use Rattle.command_core.specs.Answers.{answer_of_words}
+use Rattle.command_core.specs.Commands.{IsCommand, IsRead}
+use Rattle.command_core.specs.Prints.{Prints}
+
+-- the words were refused, and their answer is printed
+abbrev pub IsRefused : List (List ℕ) → StreamState → StreamState → Status → Type 0
+IsRefused words old new status = (fault : WordFault) × IsRead words (Err fault) × Prints (answer_of_words fault) old new status
+
+-- the words are a command, which does not end with the status of other words; or they are refused
+abbrev pub StartsBy : List (List ℕ) → StreamState → StreamState → Status → Type 0
+StartsBy words old new status = (IsCommand words × (status.code ≡ 1 → ⊥)) ⊎ IsRefused words old new status

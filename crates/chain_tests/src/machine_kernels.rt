@@ -2,13 +2,13 @@
 use crate::machine_slots::{Board, machine_of};
 use board_core::{Disk, FuseDisk};
 use board_mem::{MemDisk, TableHook};
-use gpt_core::{Found, GptRoom, read_table};
+use gpt_core::GptRoom;
 use kernel_core::{BodyRoom, BootMode, HEAD_SIZE, KernelRules};
 use key_core::{LARGEST_KEY, PackedKey};
 use std::alloc::Global;
 use std::process::Abort;
 use std::test::Fail;
-use walk_core::{Walked, walk};
+use walk_core::{Seen, Walked, see};
 
 // The key that signs the keyblocks of the kernels of machine 1: the fill of its number and of tag 4.
 fn subkey() -> PackedKey {
@@ -26,7 +26,8 @@ fn subkey() -> PackedKey {
     }
 }
 
-// What a walk over the disk comes to, the attributes of entries 2 and 4 after it, and how many sectors were read.
+// What a walk over the disk comes to, after which its table is not to be written, the attributes of entries 2 and 4, and how many
+// sectors were read.
 fn walk_over(
     rt: &impl Abort,
     alloc: Global,
@@ -40,12 +41,14 @@ fn walk_over(
     let key = subkey();
     assert!(rt; disk.pending() == 0);
     let before = disk.inner().sectors_read();
-    match read_table(disk, &mut room) {
-        Ok(Found::Primary { agree: true }) => (),
-        _ => return Err("no table".into()),
-    }
-    let Ok(walked) = walk(disk, hook, &mut room, &mut vblock, &mut body, &key, rules) else {
-        return Err("a device failed".into());
+    let walked = match see(disk, hook, &mut room, &mut vblock, &mut body, &key, rules) {
+        Ok(
+            Seen::Table {
+                walked,
+                changed: false,
+            },
+        ) => walked,
+        _ => return Err("no table, or one that is to be written".into()),
     };
     let attributes = [room.entry(2).attributes, room.entry(4).attributes];
     let read = disk.inner().sectors_read();

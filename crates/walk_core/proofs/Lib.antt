@@ -11,3 +11,6 @@ mod WalkSums
 mod WalkChosen
 mod WalkDone
 pub mod Choices
+mod FoundTables
+mod SameChoices
+mod Seeing

@@ -79,7 +79,7 @@ kernel_in_same d first sectors disk' hook' same =
     ap (λ (good : Bool). if good then Some (head_ok (asked_of_head e first)) else None) (good_same d first sectors disk' hook' same)
     ∙ ap (λ (q : HeadQuestion). if is_good d first sectors then Some (head_ok q) else None) (asked_same d first disk' hook' same)
 
-sectors_same : (d : Drive) (first sectors : ℕ) (disk' : DiskState) (hook' : HookState) → SameContent d disk' hook'
+pub sectors_same : (d : Drive) (first sectors : ℕ) (disk' : DiskState) (hook' : HookState) → SameContent d disk' hook'
     → body_sectors (drive_now d disk' hook') first sectors ≡ body_sectors d first sectors
 sectors_same d first sectors disk' hook' same =
     ap (λ (q : HeadQuestion). read_sectors sectors (head_ok q).body_at (head_ok q).body_len) (asked_same d first disk' hook' same)

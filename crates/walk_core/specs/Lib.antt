@@ -9,3 +9,4 @@ pub mod Choice
 pub mod Fates
 pub mod Walks
 pub mod Steps
+pub mod Seen

@@ -5,11 +5,12 @@
 //! - `candidates` says which entries are candidates, and in which order.
 //! - `examine` tells of the kernel in one partition whether it is good.
 //! - `first` goes through the candidates up to the first good one, `later` through those behind it, and `fates` marks the entries.
-//! - `walking` is the walk over a drive, and `walked` what it comes to.
+//! - `walking` is the walk over a drive, and `walked` what it comes to. `drive` reads the drive's table first.
 #![tactic(auto)]
 
 mod attributes;
 mod candidates;
+mod drive;
 mod examine;
 mod fates;
 mod first;
@@ -21,6 +22,7 @@ pub use attributes::{bad_attributes, is_successful, priority, tried_attributes, 
 pub use candidates::{
     CANDIDATES, KERNEL_TYPE, candidates_in_order, is_candidate, is_earlier, rank,
 };
+pub use drive::{Seen, see};
 pub use examine::{examine_head, examine_kernel};
 pub use fates::fate;
 pub use walked::{Kernel, Walked};

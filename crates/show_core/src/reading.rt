@@ -98,17 +98,11 @@ fn read_areas<F: Flash>(
     ensures { ReadsAreas map_at map.now (F.state flash.old) (F.state flash.new) result }
 {
     let size = flash.size();
-    let Ok(gbb) = read_gbb_facts(flash, map.gbb) else {
-        return Err(Failed);
-    };
+    let gbb = read_gbb_facts(flash, map.gbb)?;
     let room = &mut vblock[..map.vblock_a.size as usize];
-    let Ok(slot_a) = read_slot(flash, map.vblock_a, room) else {
-        return Err(Failed);
-    };
+    let slot_a = read_slot(flash, map.vblock_a, room)?;
     let room = &mut vblock[..map.vblock_b.size as usize];
-    let Ok(slot_b) = read_slot(flash, map.vblock_b, room) else {
-        return Err(Failed);
-    };
+    let slot_b = read_slot(flash, map.vblock_b, room)?;
     Ok(FlashFacts {
         size,
         map_at,
@@ -135,8 +129,6 @@ pub fn read_facts<F: Flash>(
         Ok(map) => map,
         Err(fault) => return Ok(Err(fault)),
     };
-    let Ok(facts) = read_areas(flash, map_at, &map, vblock) else {
-        return Err(Failed);
-    };
+    let facts = read_areas(flash, map_at, &map, vblock)?;
     Ok(Ok(facts))
 }

@@ -16,10 +16,10 @@ returns g c =
     let old = (g.F.Flash.state c.args.flash.now).medium in
     let asked = map_question c.args.map_at old in
     let read = c.in_ok-map.ensures in
-    let parts = c.in-Ok-read_areas.ensures in
-    let facts : IsTrue old.told → c.in-Ok-read_areas.facts ≡ flash_facts c.args.map_at c.in-Ok.map old = λ told.
+    let parts = c.in_ok-facts.ensures in
+    let facts : IsTrue old.told → c.in_ok-facts.facts ≡ flash_facts c.args.map_at c.in-Ok.map old = λ told.
     parts.facts (subst (λ (m : FlashMedium). IsTrue m.told) (sym read.medium) told) ∙ ap (flash_facts c.args.map_at c.in-Ok.map) read.medium in
-    let same : IsTrue old.told → c.in-Ok-read_areas.facts.map ≡ c.in-Ok.map = λ told. ap (λ (f : FlashFacts). f.map) (facts told) in
+    let same : IsTrue old.told → c.in_ok-facts.facts.map ≡ c.in-Ok.map = λ told. ap (λ (f : FlashFacts). f.map) (facts told) in
     record {
       counters = observed_then _ _ _ _ read.counters parts.counters;
       medium = parts.medium ∙ read.medium;

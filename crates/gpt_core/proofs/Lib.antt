@@ -17,3 +17,4 @@ pub mod CopyPlaces
 pub mod TableRows
 pub mod CommitSteps
 pub mod SettledReads
+pub mod FoundTables

@@ -192,6 +192,8 @@ saves_by_program area at was r old new result room ranges good is state sized in
       size = call.size;
       told = call.told;
       outside = λ told. same_but_wider at 16 area 8192 old.medium.bytes new.medium.bytes (omega arith) (omega arith) (same told);
+      page = λ told. subst (λ (p : ℕ). SameBut (area + 4096 * p) 4096 old.medium.bytes new.medium.bytes) (sym (cond-true (has_room was) _ _ room))
+          (same_but_wider at 16 (area + 4096 * unwrap_or was.page 0) 4096 old.medium.bytes new.medium.bytes (omega arith) (omega arith) (same told));
       kept = λ told.
           subst (λ (p : Option ℕ). IfSome p (λ page. range new.medium.bytes (area + 4096 * page) (16 + 16 * was.next) ≡ range old.medium.bytes (area + 4096 * page) (16 + 16 * was.next))) (sym counts)
           (range_before at 16 (area + 4096 * page) (16 + 16 * was.next) old.medium.bytes new.medium.bytes (omega arith) (same told));

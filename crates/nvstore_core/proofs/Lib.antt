@@ -8,3 +8,4 @@ pub mod Pieces
 pub mod Answering
 pub mod Appending
 pub mod Switching
+pub mod Twice

@@ -60,7 +60,7 @@ next_at area (Some page) generation old new within is few of_page same next =
     next
 
 -- all that was written in the current page stays
-kept_at : (area next : ℕ) (page : Option ℕ) (old new : List ℕ) → IfSome page (λ page. page ≤ 1) → next ≤ 255 → SameBut (place_of area page) 4096 old new
+pub kept_at : (area next : ℕ) (page : Option ℕ) (old new : List ℕ) → IfSome page (λ page. page ≤ 1) → next ≤ 255 → SameBut (place_of area page) 4096 old new
     → IfSome page (λ page. range new (area + 4096 * page) (16 + 16 * next) ≡ range old (area + 4096 * page) (16 + 16 * next))
 kept_at area next None old new within few same = tt
 kept_at area next (Some page) old new within few same =
@@ -282,6 +282,7 @@ saves_by_page area was r old new result room ranges good state sized inside call
       size = call.size;
       told = call.told;
       outside = λ told. same_but_wider place 4096 area 8192 old.medium.bytes new.medium.bytes (omega arith) (omega arith) (same told);
+      page = λ told. subst (λ (p : ℕ). SameBut (area + 4096 * p) 4096 old.medium.bytes new.medium.bytes) (sym (cond-false (has_room was) _ _ room)) (same told);
       kept = λ told. kept_at area was.next was.page old.medium.bytes new.medium.bytes ranges.page ranges.next (same told);
       bytes = λ told. on_ok_map result (λ (bytes : new.medium.bytes ≡ spliced old.medium.bytes place (fresh_page (next_generation was) r)).
           bytes ∙ sym (cond-false (has_room was) _ _ room)) (call.bytes told);

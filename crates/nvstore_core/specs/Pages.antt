@@ -159,6 +159,10 @@ next_generation state = if is_some state.page then (state.generation + 1) % 3 el
 abbrev pub calls_to_save : NvState → ℕ
 calls_to_save state = if has_room state then 1 else 3
 
+-- the page in which a record is stored: the current one where it has room, and else the other one
+abbrev pub page_to_write : NvState → ℕ
+page_to_write state = if has_room state then unwrap_or state.page 0 else other_page state.page
+
 -- the state after a record was stored
 unfoldable pub state_with_record : NvState → List ℕ → NvState
 state_with_record state r =

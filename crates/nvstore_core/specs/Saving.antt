@@ -3,7 +3,7 @@ use Rattle.std.specs.Prelude.{◌≡◌, ℕ, ◌+◌, ◌*◌, List, take, drop
 use Rattle.board_core.specs.Counters.{Observed, MadeChanges, Rose}
 use Rattle.board_core.specs.Flash.{FlashState, range}
 use Rattle.nvstore_core.specs.declared.state.NvState.{NvState}
-use Rattle.nvstore_core.specs.Pages.{IsStateOf, InRange, calls_to_save, bytes_with_record, record_in, state_with_record}
+use Rattle.nvstore_core.specs.Pages.{IsStateOf, InRange, calls_to_save, page_to_write, bytes_with_record, record_in, state_with_record}
 use Rattle.nvstore_core.specs.Fair.{FailsToStore}
 
 -- all bytes but so many from a place stay
@@ -38,6 +38,8 @@ pub record Saves {E : Type 0} (area : ℕ) (was : NvState) (r : List ℕ) (old n
   pub size : new.medium.size ≡ old.medium.size
   pub told : new.medium.told ≡ old.medium.told
   pub outside : IsTrue old.medium.told → SameButPages area old.medium.bytes new.medium.bytes
+  -- whatever the answer, one page alone changes
+  pub page : IsTrue old.medium.told → SameBut (area + 4096 * page_to_write was) 4096 old.medium.bytes new.medium.bytes
   pub kept : IsTrue old.medium.told → KeepsWritten area was old.medium.bytes new.medium.bytes
   -- one cell changed, or one page
   pub bytes : IsTrue old.medium.told → OnOk result (new.medium.bytes ≡ bytes_with_record area was r old.medium.bytes)

@@ -18,6 +18,7 @@ use Rattle.gpt_core.specs.Room.{RoomView, ReadsTable, IsFoundOn}
 use Rattle.gpt_core.specs.Tables.{table_in, table_on, copy_table, or_else}
 use Rattle.gpt_core.proofs.SettledReads.{keeps_read}
 use Rattle.gpt_core.proofs.Sources.{IsThere}
+use Rattle.gpt_core.proofs.FoundTables.{table_there, none_there, used_says}
 use Rattle.gpt_core.proofs.UsedEntries.{used_between, LiesBetween}
 use Rattle.show_core.specs.declared.facts.PartitionFacts.{PartitionFacts}
 use Rattle.show_core.specs.declared.facts.PartitionFacts.TheVariants.{Short, Kernel}
@@ -26,28 +27,6 @@ use Rattle.key_core.specs.declared.fault.KeyblockFault.{KeyblockFault}
 use Rattle.show_core.specs.Facts.{kernel_facts, partition_facts}
 use Rattle.show_core.specs.declared.partition_reading.Missing.TheVariants as missing
 use Rattle.show_core.specs.Partition.{has_entry, entry_place, place_answer, table_answer, partition_answer}
-
--- ---- a disk that stays as it is
-
-pub keeps_same : (medium : DiskMedium) → medium.pending ≡ 0 → (IsTrue medium.told → length medium.writes ≡ medium.pending) → KeepsDisk medium medium
-keeps_same medium settled as_many = record {
-  sectors = refl;
-  told = refl;
-  none_pending = settled;
-  bytes = λ told. refl;
-  torn = λ told. refl;
-  writes = settled_writes medium settled as_many;
-}
-
-pub keeps_then : (a b c : DiskMedium) → KeepsDisk a b → KeepsDisk b c → KeepsDisk a c
-keeps_then a b c first second = record {
-  sectors = second.sectors ∙ first.sectors;
-  told = second.told ∙ first.told;
-  none_pending = second.none_pending;
-  bytes = λ told. second.bytes (subst IsTrue (sym first.told) told) ∙ first.bytes told;
-  torn = λ told. second.torn (subst IsTrue (sym first.told) told) ∙ first.torn told;
-  writes = λ told. second.writes (subst IsTrue (sym first.told) told);
-}
 
 -- ---- the kernel of a partition
 
@@ -62,11 +41,6 @@ long_facts first sectors medium buf kernel many is filled size =
     ∙ sym (cond-true (nat_le 128 sectors) (Kernel (kernel_facts (range medium.bytes (first * 512) 65536))) Short (le-leb 128 sectors many))
 
 -- ---- the place of an entry
-
-pub used_says : (entries : List ℕ) (k : ℕ) → is_used entries k ≡ true → IsUsed entries k
-used_says entries k used same =
-    let unused : is_used entries k ≡ false = ap (λ (x : List ℕ). not (pointwise nat_eq x (replicate 16 0))) same in
-    false≢true (sym unused ∙ used)
 
 abbrev place_if : (entries : List ℕ) (index : ℕ) → (ℕ × ℕ)
 place_if entries index = (first_in entries (index - 1), last_in entries (index - 1) + 1 - first_in entries (index - 1))
@@ -114,15 +88,9 @@ used_bounds sectors table index entry valid most used is =
 
 -- ---- the table of a disk, and what is answered
 
-table_there : (what : Found) (sectors : ℕ) (bytes : List ℕ) (table : PartitionTable) → IsThere what → IsFoundOn what sectors bytes table → table_in sectors bytes ≡ Some table
-table_there (found.Primary agree) sectors bytes table there is = ap (λ (o : Option PartitionTable). or_else o (copy_table Backup sectors bytes)) is.0
-table_there found.Backup sectors bytes table there is = ap (λ (o : Option PartitionTable). or_else o (copy_table Backup sectors bytes)) is.0 ∙ is.1
-table_there found.None sectors bytes table there is = absurd there
-
 pub no_table : (index : ℕ) (medium : DiskMedium) (table : PartitionTable) → IsFoundOn found.None medium.sectors medium.bytes table → Err missing.Table ≡ partition_answer index medium
 no_table index medium table is =
-    let none : table_on medium ≡ None = ap (λ (o : Option PartitionTable). or_else o (copy_table Backup medium.sectors medium.bytes)) is.0 ∙ is.1 in
-    sym (ap (λ (o : Option PartitionTable). table_answer index o medium) none)
+    sym (ap (λ (o : Option PartitionTable). table_answer index o medium) (none_there medium.sectors medium.bytes table is))
 
 answer_of : (index : ℕ) (medium : DiskMedium) (what : Found) (table : PartitionTable) (place : Option (ℕ × ℕ)) → IsThere what → IsFoundOn what medium.sectors medium.bytes table
     → place ≡ entry_place index table.entries → partition_answer index medium ≡ place_answer place medium

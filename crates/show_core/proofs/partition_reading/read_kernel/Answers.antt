@@ -7,7 +7,8 @@ use Rattle.board_core.proofs.FuseDiskLemmas.{settled_writes}
 use Rattle.gpt_core.proofs.SettledReads.{keeps_read}
 use Rattle.show_core.specs.declared.facts.PartitionFacts.{PartitionFacts}
 use Rattle.show_core.specs.Partition.{ReadsKernel}
-use Rattle.show_core.proofs.PartitionReads.{keeps_same, short_facts, long_facts}
+use Rattle.gpt_core.proofs.FoundTables.{keeps_same}
+use Rattle.show_core.proofs.PartitionReads.{short_facts, long_facts}
 use Rattle.show_core.proofs.partition_reading.read_kernel.Goals as goal
 
 pub returns-then-sectors-lt128 : goal.returns-then-sectors-lt128

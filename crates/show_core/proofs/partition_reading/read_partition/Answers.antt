@@ -7,7 +7,8 @@ use Rattle.gpt_core.specs.Room.{ReadsTable}
 use Rattle.gpt_core.proofs.Sources.{is_there}
 use Rattle.show_core.specs.declared.facts.PartitionFacts.{PartitionFacts}
 use Rattle.show_core.specs.Partition.{ReadsKernel}
-use Rattle.show_core.proofs.PartitionReads.{keeps_then, no_table, no_entry, an_entry}
+use Rattle.gpt_core.proofs.FoundTables.{keeps_then}
+use Rattle.show_core.proofs.PartitionReads.{no_table, no_entry, an_entry}
 use Rattle.show_core.proofs.partition_reading.read_partition.Goals as goal
 
 pub returns-in-None : goal.returns-in-None

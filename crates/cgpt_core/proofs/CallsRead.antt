@@ -1,39 +1,48 @@
--- What `clap` says of the words of a command without options.
-use Rattle.std.proofs.Common.{◌≡◌, ◌∙◌, ◌⊎◌, inl, inr, refl, sym, ap, ap₂, subst, true, List, [], ◌∷◌, Option, Some, None, is_some, unwrap_or, Result, Ok, Err, map, option_map}
+-- What `clap` says of the words of a command.
+use Rattle.std.proofs.Common.{◌≡◌, ◌∙◌, ◌⊎◌, inl, inr, refl, sym, ap, subst, true, List, [], ◌∷◌, Option, Some, is_some, unwrap_or, Err}
 use Rattle.std.specs.Prelude.{slice_get}
 use Rattle.std.proofs.lemmas.Bool.{false≢true}
-use Rattle.clap.specs.Walk.{Row, Text, first_of, rows_of}
-use Rattle.clap.specs.Words.{App, Kinds, fault_of, matches_of, HasMatchesOf, IsAmong, is_simple, is_simple_and_free, first_value, found_of}
-use Rattle.clap.specs.Simple.{subcommand_of, subcommand_rows_of}
+use Rattle.clap.specs.Walk.{Text, rows_of}
+use Rattle.clap.specs.Words.{App, Kinds, fault_of, matches_of, HasMatchesOf, IsAmong, is_simple, is_simple_and_free, found_of}
 use Rattle.clap.specs.declared.error.kind.ErrorKind.{ErrorKind}
 use Rattle.clap.specs.declared.error.kind.ErrorKind.TheVariants as kind
 use Rattle.clap.specs.declared.parser.matches.ArgMatches.{ArgMatches}
 use Rattle.clap.proofs.OnLiterals.{clap_on_literals}
-use Rattle.clap.proofs.WalkLemmas.{first_value-rows}
+use Rattle.cgpt_core.specs.declared.call.CgptCommand.{CgptCommand}
+use Rattle.cgpt_core.specs.declared.call.CgptCommand.TheVariants.{Create, Add, Prioritize, Repair, Show, Find}
 use Rattle.cgpt_core.specs.declared.call.WordFault.{WordFault}
 use Rattle.cgpt_core.specs.declared.call.WordFault.TheVariants as fault
-use Rattle.cgpt_core.specs.Words.{app_named, drive_id, faults_of, drive_in, fault_of_kind, IsRefusal, call_of, call_named, command_named}
+use Rattle.cgpt_core.specs.Words.{app_named, faults_of, rows_in, fault_of_kind, IsRefusal, call_of, call_named, command_named}
 
-simple_and_free : (name : Text) → is_simple_and_free (app_named name) ≡ true
+simple_and_free : (command : CgptCommand) (name : Text) → is_simple_and_free (app_named command name) ≡ true
 unfolding clap_on_literals
-simple_and_free name = refl
+simple_and_free Create name = refl
+simple_and_free Add name = refl
+simple_and_free Prioritize name = refl
+simple_and_free Repair name = refl
+simple_and_free Show name = refl
+simple_and_free Find name = refl
 
-simple : (name : Text) → is_simple (app_named name) ≡ true
+simple : (command : CgptCommand) (name : Text) → is_simple (app_named command name) ≡ true
 unfolding clap_on_literals
-simple name = refl
+simple Create name = refl
+simple Add name = refl
+simple Prioritize name = refl
+simple Repair name = refl
+simple Show name = refl
+simple Find name = refl
 
 -- the words were taken
-pub faults-none : (name : Text) (words : List Text) (app : App) → app ≡ app_named name → (is_simple_and_free app ≡ true → fault_of app words ≡ []) → faults_of name words ≡ []
+pub faults-none : (command : CgptCommand) (name : Text) (words : List Text) (app : App) → app ≡ app_named command name → (is_simple_and_free app ≡ true → fault_of app words ≡ [])
+    → faults_of command name words ≡ []
 unfolding faults_of
-faults-none name words app is none = sym (ap (λ (a : App). fault_of a words) is) ∙ none (ap is_simple_and_free is ∙ simple_and_free name)
+faults-none command name words app is none = sym (ap (λ (a : App). fault_of a words) is) ∙ none (ap is_simple_and_free is ∙ simple_and_free command name)
 
--- what stands for the drive
-pub drive_read : (name : Text) (words : List Text) (app : App) (m : ArgMatches) (word : Option Text) → app ≡ app_named name → HasMatchesOf app words m → word ≡ first_value (found_of m) drive_id
-    → word ≡ drive_in name words
-unfolding drive_in
-drive_read name words app m word is has read =
-    let rows : rows_of (found_of m) ≡ matches_of app words = (has (ap is_simple is ∙ simple name)).0 in
-    read ∙ first_value-rows (found_of m) drive_id ∙ ap (first_of drive_id) (rows ∙ ap (λ (a : App). matches_of a words) is)
+-- what they give
+pub rows_read : (command : CgptCommand) (name : Text) (words : List Text) (app : App) (m : ArgMatches) → app ≡ app_named command name → HasMatchesOf app words m
+    → rows_of (found_of m) ≡ rows_in command name words
+unfolding rows_in
+rows_read command name words app m is has = (has (ap is_simple is ∙ simple command name)).0 ∙ ap (λ (a : App). matches_of a words) is
 
 -- an error that is no want of memory is Usage
 usage_or_memory : (k : ErrorKind) → (fault_of_kind k ≡ fault.Memory) ⊎ (fault_of_kind k ≡ fault.Usage)
@@ -67,13 +76,14 @@ refusal_of T k kinds (inr among) =
     ]
 
 -- the words were refused
-pub refused_by : (T : Type 0) (name : Text) (words : List Text) (app : App) (k : ErrorKind) (answer : WordFault) → app ≡ app_named name
-    → (is_simple_and_free app ≡ true → (k ≡ kind.OutOfMemory) ⊎ IsAmong k (fault_of app words)) → answer ≡ fault_of_kind k → IsRefusal {T = T} (faults_of name words) (Err answer)
+pub refused_by : (T : Type 0) (command : CgptCommand) (name : Text) (words : List Text) (app : App) (k : ErrorKind) (answer : WordFault) → app ≡ app_named command name
+    → (is_simple_and_free app ≡ true → (k ≡ kind.OutOfMemory) ⊎ IsAmong k (fault_of app words)) → answer ≡ fault_of_kind k → IsRefusal {T = T} (faults_of command name words) (Err answer)
 unfolding faults_of
-refused_by T name words app k answer is fails same =
-    let kinds : (k ≡ kind.OutOfMemory) ⊎ IsAmong k (fault_of app words) = fails (ap is_simple_and_free is ∙ simple_and_free name) in
-    let here : IsRefusal {T = T} (fault_of (app_named name) words) (Err (fault_of_kind k)) = subst (λ (a : App). IsRefusal {T = T} (fault_of a words) (Err (fault_of_kind k))) is (refusal_of T k _ kinds) in
-    subst (λ (f : WordFault). IsRefusal {T = T} (fault_of (app_named name) words) (Err f)) (sym same) here
+refused_by T command name words app k answer is fails same =
+    let named : App = app_named command name in
+    let kinds : (k ≡ kind.OutOfMemory) ⊎ IsAmong k (fault_of app words) = fails (ap is_simple_and_free is ∙ simple_and_free command name) in
+    let here : IsRefusal {T = T} (fault_of named words) (Err (fault_of_kind k)) = subst (λ (a : App). IsRefusal {T = T} (fault_of a words) (Err (fault_of_kind k))) is (refusal_of T k _ kinds) in
+    subst (λ (f : WordFault). IsRefusal {T = T} (fault_of named words) (Err f)) (sym same) here
 
 -- ---- the answer to words, by their first
 

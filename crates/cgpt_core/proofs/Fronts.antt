@@ -1,6 +1,6 @@
 -- Texts that are put together, and beginnings of them.
-use Rattle.std.proofs.Common.{◌≡◌, ◌∙◌, ℕ, zero, suc, ◌+◌, ◌≤◌, ◌⊎◌, inl, inr, refl, sym, ap, subst, arith, List, [], ◌∷◌, ◌++◌, append-nil, append_assoc, true, false}
-use Rattle.std.specs.Prelude.{Result, Ok, Err, IsTrue, take, drop, length, Bool, ◌<◌, ◌-◌, if◌then◌else◌}
+use Rattle.std.proofs.Common.{◌≡◌, ◌∙◌, ℕ, zero, suc, ◌+◌, refl, sym, ap, subst, arith, List, [], ◌++◌, append-nil, append_assoc, true, false}
+use Rattle.std.specs.Prelude.{Result, Ok, Err, IsTrue, take, drop, Bool, ◌<◌, ◌-◌, if◌then◌else◌}
 use Rattle.std.proofs.lemmas.Bool.{false≢true}
 use Rattle.std.proofs.lemmas.List.{take-append-drop}
 use Rattle.board_core.specs.Counters.{CountsFaults, raised}
@@ -9,7 +9,7 @@ use Rattle.board_core.specs.declared.device.Failed.{Failed}
 use Rattle.gpt_core.specs.declared.entry.Entry.{Entry}
 use Rattle.gpt_core.specs.Entries.{is_used, entry_in}
 use Rattle.cgpt_core.specs.Text.{entry_lines, entry_line, part_line}
-use Rattle.cgpt_core.specs.Tables.{IsFrontPut, PutsText}
+use Rattle.cgpt_core.specs.Tables.{PutsText}
 
 -- words and a number behind a text that begins with this one
 one_more : (t X w d : List ℕ) → ((t ++ X) ++ w) ++ d ≡ t ++ ((X ++ w) ++ d)

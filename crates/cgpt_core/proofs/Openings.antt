@@ -1,7 +1,6 @@
 -- The table that was found in the copies of a disk.
-use Rattle.std.proofs.Common.{◌≡◌, ◌∙◌, ℕ, ◌+◌, ◌-◌, ◌<◌, ◌≤◌, ◌^◌, refl, sym, ap, subst, arith, Bool, true, false, List, Option, Some, None, Ok}
-use Rattle.std.specs.Prelude.{IsTrue, nat_le, nat_eq, not, replicate, is_some}
-use Rattle.std.specs.Cmp.Lexicographic.{pointwise}
+use Rattle.std.proofs.Common.{◌≡◌, ◌∙◌, ℕ, ◌<◌, ◌≤◌, refl, sym, ap, subst, arith, Bool, true, false, List, Option, Some, None, Ok}
+use Rattle.std.specs.Prelude.{nat_le, is_some}
 use Rattle.std.proofs.lemmas.Bool.{false≢true, and_parts, leb-true}
 use Rattle.board_core.specs.declared.device.Failed.{Failed}
 use Rattle.board_core.specs.Disk.{DiskState}
@@ -9,13 +8,14 @@ use Rattle.gpt_core.specs.declared.entry.Entry.{Entry}
 use Rattle.gpt_core.specs.declared.side.Side.TheVariants as side
 use Rattle.gpt_core.specs.declared.found.Found.{Found}
 use Rattle.gpt_core.specs.declared.found.Found.TheVariants as found
-use Rattle.gpt_core.specs.Entries.{is_used, entry_in, IsUsed}
+use Rattle.gpt_core.specs.Entries.{is_used, entry_in}
 use Rattle.gpt_core.specs.Format.{PartitionTable, IsValidTable}
 use Rattle.gpt_core.specs.Room.{RoomView, ReadsTable, IsFoundOn}
-use Rattle.gpt_core.specs.Tables.{copy_table, or_else, IsGood, CopiesAgree}
+use Rattle.gpt_core.specs.Tables.{IsGood}
+use Rattle.gpt_core.proofs.FoundTables.{table_there, none_there, used_says}
 use Rattle.gpt_core.proofs.UsedEntries.{used_between}
 use Rattle.gpt_core.proofs.Sources.{valid_size}
-use Rattle.cgpt_core.specs.Tables.{IsOpened, Opens, Holds, opened_of}
+use Rattle.cgpt_core.specs.Tables.{IsOpened, Opens, opened_of}
 
 none≢some : (table : PartitionTable) → ◌≡◌ {A = Option PartitionTable} None (Some table) → ⊥
 none≢some table same = false≢true (ap (λ (o : Option PartitionTable). is_some o) same)
@@ -23,7 +23,7 @@ none≢some table same = false≢true (ap (λ (o : Option PartitionTable). is_so
 primary_opened : (agree : Bool) (sectors : ℕ) (bytes : List ℕ) (table : PartitionTable) → IsFoundOn (found.Primary agree) sectors bytes table
     → IsOpened (record { side = side.Primary; agree = agree }) sectors bytes table
 primary_opened agree sectors bytes table is = record {
-  good = ap (λ (o : Option PartitionTable). or_else o (copy_table side.Backup sectors bytes)) is.0;
+  good = table_there (found.Primary agree) sectors bytes table tt is;
   source = subst IsGood (sym is.0) tt;
   agrees = (
     λ agreed. (table, record { primary = is.0; backup = is.1.0 agreed }),
@@ -34,7 +34,7 @@ primary_opened agree sectors bytes table is = record {
 backup_opened : (sectors : ℕ) (bytes : List ℕ) (table : PartitionTable) → IsFoundOn found.Backup sectors bytes table
     → IsOpened (record { side = side.Backup; agree = false }) sectors bytes table
 backup_opened sectors bytes table is = record {
-  good = ap (λ (o : Option PartitionTable). or_else o (copy_table side.Backup sectors bytes)) is.0 ∙ is.1;
+  good = table_there found.Backup sectors bytes table tt is;
   source = (is.0, subst IsGood (sym is.1) tt);
   agrees = (λ agreed. absurd (false≢true agreed), λ both. absurd (none≢some both.0 (sym is.0 ∙ both.1.primary)));
 }
@@ -70,14 +70,8 @@ opens_by old new room found.None reads = record {
   holds = tt;
   found = λ told. tt;
   none = λ told.
-      let is = reads.found told in
-      ap (λ (o : Option PartitionTable). or_else o (copy_table side.Backup old.medium.sectors old.medium.bytes)) is.0 ∙ is.1;
+      none_there old.medium.sectors old.medium.bytes room.table (reads.found told);
 }
-
-used_says : (entries : List ℕ) (k : ℕ) → is_used entries k ≡ true → IsUsed entries k
-used_says entries k used same =
-    let unused : is_used entries k ≡ false = ap (λ (x : List ℕ). not (pointwise nat_eq x (replicate 16 0))) same in
-    false≢true (sym unused ∙ used)
 
 -- where a used entry lies
 pub entry_within : (sectors : ℕ) (table : PartitionTable) (k : ℕ) (entry : Entry) → IsValidTable sectors table → k < 128 → is_used table.entries k ≡ true → entry ≡ entry_in table.entries k

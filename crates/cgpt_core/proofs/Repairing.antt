@@ -1,10 +1,10 @@
 -- What a repair leaves of a disk, by its answer.
-use Rattle.std.proofs.Common.{◌≡◌, ◌∙◌, ◌⊎◌, inl, inr, ℕ, ◌+◌, ◌≤◌, refl, sym, ap, ap₂, subst, arith, Bool, true, false, List, Option, Some, None, Ok, Err, Result}
+use Rattle.std.proofs.Common.{◌≡◌, ◌∙◌, ◌⊎◌, inl, inr, ℕ, refl, sym, ap₂, subst, arith, Bool, true, false, List, Option, Some, None, Ok, Err, Result}
 use Rattle.std.specs.Prelude.{IsTrue}
 use Rattle.std.proofs.lemmas.Bool.{false≢true}
 use Rattle.board_core.specs.declared.device.Failed.{Failed}
-use Rattle.board_core.specs.Counters.{CountsFaults, Observed, MadeChanges}
-use Rattle.board_core.specs.Disk.{DiskMedium, DiskState, Flushed, overlaid}
+use Rattle.board_core.specs.Counters.{CountsFaults, MadeChanges}
+use Rattle.board_core.specs.Disk.{DiskMedium, DiskState, overlaid}
 use Rattle.board_core.specs.Streams.{StreamState}
 use Rattle.board_core.specs.Torn.{Logs, added}
 use Rattle.board_core.proofs.Stops.{made_only_observed, observed_made}
@@ -18,7 +18,7 @@ use Rattle.gpt_core.specs.Tables.{table_on, table_in, IsGood, CopiesAgree, BothH
 use Rattle.cgpt_core.specs.declared.fault.CgptFault.{CgptFault}
 use Rattle.cgpt_core.specs.declared.fault.CgptFault.TheVariants as fault
 use Rattle.cgpt_core.specs.declared.opening.Opened.{Opened}
-use Rattle.cgpt_core.specs.Tables.{agree_line, repaired_line, is_device, IsBuilt, IsPut, IsRepaired, IsUnrepaired, IsRepairWord, KnowsTable, LeavesDisk, NothingToWrite, Opens, Repairs, Tells}
+use Rattle.cgpt_core.specs.Tables.{agree_line, repaired_line, is_device, IsBuilt, IsPut, IsRepaired, IsRepairWord, KnowsTable, LeavesDisk, NothingToWrite, Opens, Repairs, Tells}
 use Rattle.cgpt_core.proofs.Telling.{word_of}
 
 -- ---- an answer of the sink

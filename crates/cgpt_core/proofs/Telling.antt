@@ -1,14 +1,12 @@
 -- What is put, by the answer.
-use Rattle.std.proofs.Common.{◌≡◌, ◌∙◌, ℕ, refl, sym, ap, subst, arith, Bool, true, false, List, ◌++◌, Option, Some, Ok, Err, Result}
-use Rattle.std.specs.Prelude.{IsTrue, codes, take, drop, length}
-use Rattle.std.proofs.lemmas.Bool.{false≢true}
+use Rattle.std.proofs.Common.{◌≡◌, ◌∙◌, ℕ, refl, sym, ap, subst, Bool, true, List, Option, Some, Ok, Err, Result}
+use Rattle.std.specs.Prelude.{IsTrue, take, drop}
 use Rattle.std.proofs.lemmas.List.{take-append-drop}
 use Rattle.board_core.specs.declared.device.Failed.{Failed}
 use Rattle.board_core.specs.Disk.{DiskState}
 use Rattle.board_core.specs.Streams.{StreamState, Puts}
 use Rattle.gpt_core.specs.Room.{RoomView}
 use Rattle.gpt_core.specs.Tables.{IsGood}
-use Rattle.gpt_core.specs.Format.{PartitionTable}
 use Rattle.cgpt_core.specs.declared.call.CgptDrive.{CgptDrive}
 use Rattle.cgpt_core.specs.declared.fault.CgptFault.{CgptFault}
 use Rattle.cgpt_core.specs.declared.fault.CgptFault.TheVariants as fault

@@ -1,4 +1,5 @@
 -- The definitions of this crate.
+pub mod Values
 pub mod Words
 pub mod Text
 pub mod Tables

@@ -3,7 +3,6 @@ use Rattle.std.specs.Prelude.{◌≡◌, ◌↔◌, ◌⊎◌, ℕ, ◌≤◌, B
 use Rattle.board_core.specs.Counters.{CountsFaults, Observed, MadeChanges}
 use Rattle.board_core.specs.Disk.{DiskMedium, DiskState, Flushed}
 use Rattle.board_core.specs.Streams.{StreamState}
-use Rattle.gpt_core.specs.declared.side.Side.{Side}
 use Rattle.gpt_core.specs.declared.side.Side.TheVariants as side
 use Rattle.gpt_core.specs.declared.found.Found.{Found}
 use Rattle.gpt_core.specs.declared.found.Found.TheVariants as found

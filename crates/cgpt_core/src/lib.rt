@@ -1,6 +1,7 @@
 //! The commands on partition tables: how their words are read, and what they do to a disk.
 //!
-//! - `call` is a command with its values, and `reading` reads one from the words of a command line.
+//! - `call` is a command with its values, and `reading` reads one from the words of a command line: `options` reads the values
+//!   of its options, and `values` says what a text stands for.
 //! - `opening` reads the table of a disk, `lines` makes the lines of its text, and `putting` puts them into a sink.
 //! - `working` works a command, and `fault` says why it did not.
 #![tactic(auto)]
@@ -9,8 +10,10 @@ mod call;
 mod fault;
 mod lines;
 mod opening;
+mod options;
 mod putting;
 mod reading;
+mod values;
 mod working;
 
 pub use call::{CgptCall, CgptCommand, CgptDrive, Label, WordFault};

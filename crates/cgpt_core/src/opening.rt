@@ -21,9 +21,7 @@ pub(crate) fn open_table<D: Disk>(
     requires settled { (D.state disk.old).medium.pending ≡ 0 }
     ensures { Opens (D.state disk.old) (D.state disk.new) room.new result }
 {
-    let Ok(found) = read_table(disk, room) else {
-        return Err(Failed);
-    };
+    let found = read_table(disk, room)?;
     Ok(opened_of(found))
 }
 

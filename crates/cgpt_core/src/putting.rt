@@ -24,9 +24,7 @@ pub(crate) fn put_table<O: Sink>(
     ensures { PutsText (table_text drive sectors opened.side opened.agree room.now.table) (O.state out.old) (O.state out.new) result }
 {
     let head = text_of_head(drive, sectors, opened.side, opened.agree, room);
-    let Ok(()) = out.put(head.as_slice()) else {
-        return Err(Failed);
-    };
+    out.put(head.as_slice())?;
     put_parts(out, room)
 }
 
@@ -37,9 +35,7 @@ fn put_parts<O: Sink>(out: &mut O, room: &GptRoom) -> Result<(), Failed>
     ensures { PutsText (entry_lines 128 room.now.table.entries) (O.state out.old) (O.state out.new) result }
 {
     for k in 0..128 {
-        let Ok(()) = put_part(out, room, k) else {
-            return Err(Failed);
-        };
+        put_part(out, room, k)?;
     }
     Ok(())
 }

@@ -1,6 +1,6 @@
 -- The line of an entry that is used.
 use Rattle.std.proofs.Common.{◌∙◌}
-use Rattle.cgpt_core.proofs.Fronts.{line_put, line_used, line_none}
+use Rattle.cgpt_core.proofs.Fronts.{line_put, line_used}
 use Rattle.cgpt_core.proofs.putting.put_part.Goals as goal
 
 pub returns : goal.returns

@@ -1,0 +1,11 @@
+use Rattle.std.proofs.Common.{codes}
+use Rattle.clap.specs.Words.{app_of}
+use Rattle.cgpt_core.specs.Words.{value_rule}
+use Rattle.cgpt_core.proofs.MoreOptions.{three_more}
+use Rattle.cgpt_core.proofs.reading.with_names.Goals as goal
+
+pub returns : goal.returns
+returns c =
+    three_more (app_of c.args.app) (app_of c.in_ok-app.app) (app_of c.in_ok-app-2.app)
+    (value_rule (codes "type") 116) (value_rule (codes "unique") 117) (value_rule (codes "label") 108)
+    c.with_value-3.result c.in_ok-app.ensures c.in_ok-app-2.ensures c.with_value-3.ensures

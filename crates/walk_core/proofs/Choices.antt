@@ -1,12 +1,11 @@
 -- What is said of the chosen entry and of the least version is what the functions compute.
 use Rattle.std.proofs.Common.{◌≡◌, ℕ, zero, suc, ◌+◌, ◌-◌, ◌*◌, ◌%◌, ◌<◌, ◌≤◌, ◌⊎◌, inl, inr, min, Bool, true, false, ◌&&◌, ◌||◌, List, Option, Some, None, refl, ap, sym, subst, ◌∙◌, arith, true≢false}
-use Rattle.std.specs.Prelude.{nat_eq, nat_lt, nat_le, if◌then◌else◌}
-use Rattle.std.proofs.lemmas.Bool.{and_parts, and_from, ltb-true, ltb-false, eqb-true, eq-eqb, lt-ltb, or_cases, or_left, or_right, cond-true, cond-false}
+use Rattle.std.specs.Prelude.{nat_eq, if◌then◌else◌}
+use Rattle.std.proofs.lemmas.Bool.{and_parts, and_from, ltb-true, ltb-false, eqb-true, eq-eqb, lt-ltb, or_cases, or_left, or_right}
 use Rattle.gpt_core.specs.Entries.{attributes_in}
-use Rattle.kernel_core.specs.declared.head_fault.HeadOk.{HeadOk}
 use Rattle.walk_core.specs.Attributes.{priority_of}
 use Rattle.walk_core.specs.Candidates.{is_candidate, rank_in}
-use Rattle.walk_core.specs.Kernels.{Drive, has_good_head, body_fault}
+use Rattle.walk_core.specs.Kernels.{Drive}
 use Rattle.walk_core.specs.Chosen.{head_is_good, kernel_is_good, is_good_candidate, head_of, ComesBefore, comes_before, IsChosen, Chosen, later_count, Counts, IsLeastVersion, IsLowest}
 use Rattle.walk_core.specs.Choice.{earlier_of, chosen_below, chosen_in, counts, least_below, lowest_in}
 use Rattle.walk_core.proofs.OrderFacts.{rank_rest}

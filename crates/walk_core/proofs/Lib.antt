@@ -11,6 +11,7 @@ mod WalkSums
 mod WalkChosen
 mod WalkDone
 pub mod Choices
-mod FoundTables
 mod SameChoices
 mod Seeing
+pub mod AskedAgain
+pub mod NoOlder

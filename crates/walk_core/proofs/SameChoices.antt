@@ -1,21 +1,20 @@
 -- Two drives of which disk and hook hold the same, and which are asked with one key and the same rules, tell the same of a table.
-use Rattle.std.proofs.Common.{◌≡◌, ℕ, zero, suc, ◌+◌, min, Bool, true, false, not, ◌&&◌, ◌||◌, List, Option, Some, None, refl, ap, sym, subst, ◌∙◌}
+use Rattle.std.proofs.Common.{◌≡◌, ℕ, zero, suc, ◌+◌, min, Bool, not, ◌&&◌, ◌||◌, List, Option, Some, None, refl, ap, subst, ◌∙◌}
 use Rattle.std.specs.Prelude.{nat_eq, if◌then◌else◌}
-use Rattle.board_core.specs.Disk.{DiskMedium, DiskState}
+use Rattle.board_core.specs.Disk.{DiskState}
 use Rattle.board_core.specs.Hook.{HookState}
 use Rattle.board_core.specs.declared.hook_row.HookRow.{HookRow}
 use Rattle.chain_core.specs.Accepted.{Accepts}
-use Rattle.gpt_core.specs.Entries.{attributes_in, first_in, all_below, with_attributes}
+use Rattle.gpt_core.specs.Entries.{first_in, all_below, with_attributes}
 use Rattle.gpt_core.specs.Format.{PartitionTable}
 use Rattle.kernel_core.specs.Heads.{HeadQuestion, head_ok, head_key, head_preamble, HeadChain}
 use Rattle.kernel_core.specs.KernelBodies.{kernel_body}
 use Rattle.kernel_core.specs.declared.head_fault.HeadOk.{HeadOk}
-use Rattle.walk_core.specs.Attributes.{tried, found_bad}
 use Rattle.walk_core.specs.Candidates.{is_candidate}
 use Rattle.walk_core.specs.Kernels.{Drive, head_bytes, asked_of_head}
-use Rattle.walk_core.specs.Chosen.{sectors_in, head_is_good, kernel_is_good, is_good_candidate, head_of, comes_before, later_count_by, later_count}
+use Rattle.walk_core.specs.Chosen.{sectors_in, head_is_good, is_good_candidate, head_of, comes_before, later_count_by, later_count}
 use Rattle.walk_core.specs.Choice.{earlier_of, chosen_below, chosen_in, counts, least_below, lowest_in}
-use Rattle.walk_core.specs.Fates.{is_tried, fate_by, has_bad_head, fate, with_each, table_after}
+use Rattle.walk_core.specs.Fates.{fate_by, has_bad_head, fate, with_each, table_after}
 use Rattle.walk_core.specs.Walks.{sum_below, is_reached, body_sectors_in, body_sectors_read, sectors_for, body_of, IsKernelOf}
 use Rattle.walk_core.specs.Seen.{kernel_at, walked_in, table_walked}
 use Rattle.walk_core.specs.declared.walked.Kernel.{Kernel}

@@ -1,24 +1,23 @@
 -- What is seen on a drive: no table, or a table and the walk over it.
 use Rattle.std.proofs.Common.{◌≡◌, ℕ, ◌+◌, ◌-◌, ◌≤◌, Bool, true, false, not, ◌&&◌, List, [], Option, Some, None, Ok, Err, Result, refl, ap, sym, subst, ◌∙◌, arith, true≢false}
-use Rattle.std.specs.Prelude.{◌↔◌, nat_eq, IsTrue, OnOk, IfOk, IfSome, is_some}
+use Rattle.std.specs.Prelude.{◌↔◌, nat_eq, IsTrue, IfSome, is_some}
 use Rattle.std.specs.Str.{bytes_eq}
 use Rattle.std.proofs.lemmas.Bool.{and_parts, and_from, eqb-true, eq-eqb}
 use Rattle.std.proofs.lemmas.Slice.Eq.{bytes_eq-Decides}
 use Rattle.board_core.specs.declared.device.Failed.{Failed}
 use Rattle.board_core.specs.declared.torn.Torn.{Torn}
-use Rattle.board_core.specs.Counters.{Observed}
 use Rattle.board_core.specs.Disk.{DiskMedium, DiskState, LeftDiskTorn}
 use Rattle.board_core.specs.Hook.{HookState}
 use Rattle.board_core.proofs.Stops.{observed_then}
 use Rattle.gpt_core.specs.declared.found.Found.{Found}
 use Rattle.gpt_core.specs.declared.found.Found.TheVariants as found
 use Rattle.gpt_core.specs.declared.side.Side.{Side}
-use Rattle.gpt_core.specs.declared.side.Side.TheVariants.{Primary, Backup}
+use Rattle.gpt_core.specs.declared.side.Side.TheVariants.{Backup}
 use Rattle.gpt_core.specs.Format.{PartitionTable}
 use Rattle.gpt_core.specs.Reads.{KeepsDisk}
 use Rattle.gpt_core.specs.Room.{RoomView, found_room, IsFoundOn, ReadsTable, CanCommit}
-use Rattle.gpt_core.specs.Tables.{or_else, copy_table, table_on, IsSource}
-use Rattle.walk_core.proofs.FoundTables.{keeps_then, table_there, none_there}
+use Rattle.gpt_core.specs.Tables.{copy_table, table_on, IsSource}
+use Rattle.gpt_core.proofs.FoundTables.{keeps_then, table_there, none_there}
 use Rattle.gpt_core.proofs.SettledReads.{torn_none}
 use Rattle.gpt_core.proofs.Sources.{IsThere, can_commit}
 use Rattle.chain_core.specs.declared.fault.Failure.{Failure}
@@ -26,14 +25,12 @@ use Rattle.chain_core.specs.Bodies.{store_failed}
 use Rattle.chain_core.proofs.Said.{asked_none}
 use Rattle.kernel_core.specs.KernelBodies.{LooksAtDisk}
 use Rattle.walk_core.specs.Kernels.{Drive}
-use Rattle.walk_core.specs.Chosen.{head_of}
 use Rattle.walk_core.specs.Choice.{chosen_in, lowest_in}
 use Rattle.walk_core.specs.Fates.{SameButAttributes, table_after}
 use Rattle.walk_core.specs.Walks.{sum_below, sectors_for, entry_of, IsKernelOf, Walks}
 use Rattle.walk_core.specs.Seen.{kernel_at, walked_in, table_walked, says_same, both_say, copies_agree, is_changed, seen_by, seen_in, Sees}
 use Rattle.walk_core.specs.declared.walked.Kernel.{Kernel}
 use Rattle.walk_core.specs.declared.walked.Walked.{Walked}
-use Rattle.walk_core.specs.declared.drive.Seen.{Seen}
 use Rattle.walk_core.specs.declared.drive.Seen.TheVariants as seen
 use Rattle.walk_core.proofs.Choices.{chosen_is, lowest_is}
 use Rattle.walk_core.proofs.SameDrives.{drive_now, SameContent}

@@ -71,6 +71,11 @@ seen_by d (Some table) = seen.Table (walked_in d table.entries) (is_changed d ta
 unfoldable pub seen_in : Drive → Seen
 seen_in d = seen_by d (table_on d.disk.medium)
 
+-- the kernel that is seen: the chosen one, or none
+abbrev pub kernel_of : Seen → Option Kernel
+kernel_of seen.NoTable = None
+kernel_of (seen.Table walked changed) = walked.chosen
+
 -- how many sectors the walk over a table reads at most
 abbrev pub sectors_of_walk : Drive → Option PartitionTable → ℕ
 sectors_of_walk d None = 0

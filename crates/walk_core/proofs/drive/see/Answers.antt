@@ -1,5 +1,5 @@
 -- There is no table; or the walk over it came to its end, or failed.
-use Rattle.std.proofs.Common.{Ok, Err, subst, rules}
+use Rattle.std.proofs.Common.{Ok, subst, rules}
 use Rattle.board_core.specs.declared.device.Failed.{Failed}
 use Rattle.gpt_core.specs.declared.found.Found.{Found}
 use Rattle.gpt_core.specs.Room.{ReadsTable}

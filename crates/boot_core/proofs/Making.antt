@@ -1,35 +1,30 @@
 -- Each step of a boot as a part that makes its changes.
-use Rattle.std.proofs.Common.{◌≡◌, ℕ, ◌+◌, ◌*◌, ◌<◌, ◌≤◌, List, [], ◌∷◌, length, Bool, true, false, Option, Some, None, Result, Ok, Err, refl, sym, ap, subst, ◌∙◌, arith, inl, inr}
-use Rattle.std.specs.Prelude.{fold, IsTrue, is_err, IfErr, IfSome}
+use Rattle.std.proofs.Common.{◌≡◌, ℕ, ◌+◌, ◌*◌, ◌<◌, ◌≤◌, List, [], ◌∷◌, Bool, true, false, Option, Some, None, Result, Ok, Err, refl, sym, ap, subst, ◌∙◌, arith, inl, inr}
+use Rattle.std.specs.Prelude.{IsTrue, is_err, IfErr, IfSome}
 use Rattle.std.proofs.lemmas.Bool.{false≢true}
 use Rattle.board_core.specs.declared.counters.Counters.{Counters}
 use Rattle.board_core.specs.declared.counters.FuseState.{FuseState}
 use Rattle.board_core.specs.declared.counters.FuseState.TheVariants.{Armed, Dead}
 use Rattle.board_core.specs.declared.device.Device.{Device}
 use Rattle.board_core.specs.declared.device.Device.TheVariants as device
-use Rattle.board_core.specs.declared.device.Space.TheVariants as space
 use Rattle.board_core.specs.declared.device.Fault.{Fault}
 use Rattle.board_core.specs.Counters.{Moved, MadeChanges, MadeStep, CountsFaults, Observed}
 use Rattle.board_core.specs.Torn.{Logs, Grown}
 use Rattle.board_core.specs.Fault.{is_fault_of}
 use Rattle.board_core.specs.Flash.{FlashMedium, FlashState, range}
 use Rattle.board_core.specs.Disk.{DiskMedium}
-use Rattle.board_core.specs.Tpm.{TpmState, WritesSpace}
+use Rattle.board_core.specs.Tpm.{TpmState}
 use Rattle.board_core.specs.World.{World}
-use Rattle.board_core.proofs.Stops.{made_none, made_only_observed, rose_once, step_cut, step_whole}
+use Rattle.board_core.proofs.Stops.{made_none, made_only_observed, step_cut, step_whole}
 use Rattle.board_core.proofs.TornRange.{grown_same}
 use Rattle.nvstore_core.specs.declared.state.NvState.{NvState}
 use Rattle.nvstore_core.specs.Pages.{IsStateOf, bytes_with_record, calls_to_save}
 use Rattle.nvstore_core.specs.Saving.{Saves, KeepsWritten}
 use Rattle.gpt_core.specs.Format.{PartitionTable}
 use Rattle.gpt_core.specs.Tables.{table_in}
-use Rattle.boot_core.specs.Changes.{Change, Firmware, Record, counters_on, state_with}
+use Rattle.boot_core.specs.Changes.{Change, Record, counters_on}
 use Rattle.boot_core.specs.Carries.{Targets, IsSettled, CountsBoard, SameDisk, FrameFlash, Frame, MadeFlash, MadeDisk, IsMade, CarriesOut}
-use Rattle.boot_core.specs.declared.found.Found.{Found}
-use Rattle.boot_core.specs.declared.plan.Plan.{Plan}
-use Rattle.boot_core.specs.Plan.{listed, targets_at}
-use Rattle.boot_core.specs.Steps.{Looks, Makes}
-use Rattle.boot_core.proofs.Carried.{carried_cut, carried_next}
+use Rattle.boot_core.specs.Steps.{Looks}
 use Rattle.boot_core.proofs.Frames.{frame_flash_of, frame_disk_of, frame_stick_of, frame_disk_looked, frame_stick_looked}
 
 -- ---- counters
@@ -51,11 +46,11 @@ looked a b false failed own h =
     let here : Observed a b false = subst (Observed a b) none h in
     subst (MadeStep a b 0 false) (sym none) (step_whole a b 0 (made_only_observed a b false here))
 
-no_faults : (a : ℕ) → CountsFaults a a false
+pub no_faults : (a : ℕ) → CountsFaults a a false
 no_faults a = record { later = omega arith; cause = λ f. absurd (false≢true f); no_fault = λ f. refl }
 
 -- a stop that fell in these calls was to fall in one of them
-died_in : (a b : FuseState) (n left keep : ℕ) → ((l k : ℕ) → a ≡ Armed l k → 1 ≤ l) → a ≡ Armed left keep → b ≡ Dead → Moved a b n true → (0 < left) × (left ≤ n)
+pub died_in : (a b : FuseState) (n left keep : ℕ) → ((l k : ℕ) → a ≡ Armed l k → 1 ≤ l) → a ≡ Armed left keep → b ≡ Dead → Moved a b n true → (0 < left) × (left ≤ n)
 died_in a b n left keep armed was dead moved =
     let some : 1 ≤ left = armed left keep was in
     let here : Moved (Armed left keep) Dead n true = subst (λ (s : FuseState). Moved s Dead n true) was (subst (λ (s : FuseState). Moved a s n true) dead moved) in
@@ -98,7 +93,7 @@ own_fault : {T : Type 0} (on : Device) (result : Result T Fault) → is_err resu
 own_fault on (Ok x) none = refl
 own_fault on (Err fault) none = absurd (false≢true (sym none))
 
-uncalled : (a b : Counters) (n : ℕ) (cut failed : Bool) → b ≡ a → n ≡ 0 → failed ≡ false → MadeStep a b n cut failed
+pub uncalled : (a b : Counters) (n : ℕ) (cut failed : Bool) → b ≡ a → n ≡ 0 → failed ≡ false → MadeStep a b n cut failed
 uncalled a b n cut failed same zero none = subst (λ (c : Counters). MadeStep a c n cut failed) (sym same) (subst (MadeStep a a n cut) (sym none) (idle a n cut zero))
 
 looks_counts : {T : Type 0} (old new : World) (result : Result T Fault) → Looks old new result → CountsBoard (λ (on : Device). 0) old new result
@@ -135,10 +130,10 @@ looks_carry base to state old new (Err fault) settled h none = record {
 -- ---- the write of the firmware space
 
 -- only the TPM is called
-abbrev with_tpm : World → TpmState → World
+abbrev pub with_tpm : World → TpmState → World
 with_tpm w tpm = record w { tpm = tpm }
 
-frame_tpm : (area : ℕ) (w : World) (tpm : TpmState) → IsSettled w → tpm.told ≡ w.tpm.told → Frame area w (with_tpm w tpm)
+pub frame_tpm : (area : ℕ) (w : World) (tpm : TpmState) → IsSettled w → tpm.told ≡ w.tpm.told → Frame area w (with_tpm w tpm)
 frame_tpm area w tpm settled told = record {
   flash = frame_flash_of area _ _ refl;
   tpm_told = told;
@@ -149,13 +144,13 @@ frame_tpm area w tpm settled told = record {
   map_at = refl;
 }
 
-same_made : (to : Targets) (w : World) → IsMade to [] w w
+pub same_made : (to : Targets) (w : World) → IsMade to [] w w
 same_made to w = record { flash = λ told. flash_stays to.area _ _ refl; spaces = λ told. refl; disk = λ told. disk_stays to.table _ _ refl }
 
-frame_same : (area : ℕ) (w : World) → IsSettled w → Frame area w w
+pub frame_same : (area : ℕ) (w : World) → IsSettled w → Frame area w w
 frame_same area w settled = frame_tpm area w w.tpm settled refl
 
-counts_tpm : {T : Type 0} (calls : Device → ℕ) (w : World) (tpm : TpmState) (result : Result T Fault) → calls device.Flash ≡ 0 → calls device.Disk ≡ 0 → calls device.Stick ≡ 0
+pub counts_tpm : {T : Type 0} (calls : Device → ℕ) (w : World) (tpm : TpmState) (result : Result T Fault) → calls device.Flash ≡ 0 → calls device.Disk ≡ 0 → calls device.Stick ≡ 0
     → is_fault_of device.Flash result ≡ false → is_fault_of device.Disk result ≡ false → is_fault_of device.Stick result ≡ false → is_fault_of device.Hook result ≡ false
     → MadeStep w.tpm.counters tpm.counters (calls device.Tpm) (is_err result) (is_fault_of device.Tpm result) → CountsBoard calls w (with_tpm w tpm) result
 counts_tpm calls w tpm result flash disk stick no_flash no_disk no_stick no_hook made = record {
@@ -173,46 +168,6 @@ none_carried base to state w x settled = record {
   frame = frame_same to.area w settled;
   made = same_made to w;
   ends = tt;
-}
-
-pub firmware_made : {T E : Type 0} (to : Targets) (state : NvState) (bytes : List ℕ) (w : World) (tpm : TpmState) (x : T) → IsSettled w → WritesSpace {E = E} space.Firmware bytes w.tpm tpm (Ok tt)
-    → CarriesOut 0 to state (Firmware bytes ∷ []) w (with_tpm w tpm) (Ok x)
-firmware_made to state bytes w tpm x settled h = record {
-  counts = counts_tpm _ w tpm (Ok x) refl refl refl refl refl refl refl (step_whole _ _ 1 h.counters.made);
-  frame = frame_tpm to.area w tpm settled h.told;
-  made = record {
-    flash = λ told. record { bytes = refl; stands = refl; torn = refl };
-    spaces = λ told. h.ok told;
-    disk = λ told. record { bytes = refl; stands = refl; torn = refl };
-  };
-  ends = tt;
-}
-
--- a fault of the TPM, before any change
-abbrev pub tpm_fault : Fault
-tpm_fault = record { device = device.Tpm; done = 0 }
-
-pub firmware_failed : {T E : Type 0} (to : Targets) (state : NvState) (bytes : List ℕ) (w : World) (tpm : TpmState) (e : E) → IsSettled w
-    → ((left keep : ℕ) → w.tpm.counters.stop ≡ Armed left keep → 1 ≤ left) → WritesSpace space.Firmware bytes w.tpm tpm (Err e)
-    → CarriesOut {T = T} 0 to state (Firmware bytes ∷ []) w (with_tpm w tpm) (Err tpm_fault)
-firmware_failed to state bytes w tpm e settled armed h = record {
-  counts = counts_tpm _ w tpm (Err tpm_fault) refl refl refl refl refl refl refl (step_cut _ _ 1 1 true (omega arith) h.counters.made);
-  frame = frame_tpm to.area w tpm settled h.told;
-  made = tt;
-  ends = inr (record {
-    before = [];
-    next = Firmware bytes;
-    behind = [];
-    place = refl;
-    done = refl;
-    device = refl;
-    broke = rose_once _ _ (h.counters.broke refl);
-    fell = λ left keep was dead. died_in w.tpm.counters.stop tpm.counters.stop 1 left keep armed was dead h.counters.made.stop;
-    mid = w;
-    mid_frame = frame_same to.area w settled;
-    whole = same_made to w;
-    failed = (h.err, refl, refl);
-  });
 }
 
 -- ---- the storing of the record
@@ -306,29 +261,6 @@ keeps_page (Some p) area next bytes = refl
 pub keeps_same : (area : ℕ) (state : NvState) (bytes : List ℕ) → KeepsWritten area state bytes bytes
 keeps_same area state bytes = keeps_page state.page area state.next bytes
 
--- a change of a space leaves the state of nvdata
-pub same_state : (change : Option (List ℕ)) (state : NvState) → fold state_with state (listed Firmware change) ≡ state
-same_state None state = refl
-same_state (Some bytes) state = refl
-
 -- nothing is pending after a part of a boot
 pub still_settled : {T : Type 0} (base : ℕ) (to : Targets) (state : NvState) (changes : List Change) (old new : World) (result : Result T Fault) → CarriesOut base to state changes old new result → IsSettled new
 still_settled base to state changes old new result h = record { disk = h.frame.disk.none_pending; stick = h.frame.stick.none_pending }
-
--- a fault in the write of the firmware space
-pub makes_cut : {T U : Type 0} (found : Found) (plan : Plan) (old new : World) (fault : Fault) → new.flash ≡ old.flash
-    → CarriesOut {T = T} 0 (targets_at found.map.nvram.at) found.state (listed Firmware plan.firmware) old new (Err fault) → Makes {T = U} found plan old new (Err fault)
-makes_cut found plan old new fault same h = record {
-  carried = carried_cut 0 (targets_at found.map.nvram.at) found.state (listed Firmware plan.firmware) (listed Record plan.nv) old new fault h;
-  kept = λ told. subst (λ (f : FlashState). KeepsWritten found.map.nvram.at found.state old.flash.medium.bytes f.medium.bytes) (sym same) (keeps_same found.map.nvram.at found.state old.flash.medium.bytes);
-}
-
--- both changes, one after the other
-pub makes_both : {T U : Type 0} (found : Found) (plan : Plan) (old mid new : World) (first : T) (count : ℕ) (result : Result U Fault) → count ≡ length (listed Firmware plan.firmware) → mid.flash ≡ old.flash
-    → CarriesOut 0 (targets_at found.map.nvram.at) found.state (listed Firmware plan.firmware) old mid (Ok first)
-    → (IsTrue mid.flash.medium.told → KeepsWritten found.map.nvram.at found.state mid.flash.medium.bytes new.flash.medium.bytes)
-    → CarriesOut count (targets_at found.map.nvram.at) found.state (listed Record plan.nv) mid new result → Makes found plan old new result
-makes_both found plan old mid new first count result is same h kept k = record {
-  carried = carried_next 0 count (targets_at found.map.nvram.at) found.state found.state (listed Firmware plan.firmware) (listed Record plan.nv) old mid new first result (omega (arith, is)) h (sym (same_state plan.firmware found.state)) k;
-  kept = λ told. subst (λ (f : FlashState). KeepsWritten found.map.nvram.at found.state f.medium.bytes new.flash.medium.bytes) same (kept (subst (λ (f : FlashState). IsTrue f.medium.told) (sym same) told));
-}

@@ -18,7 +18,8 @@ use Rattle.gpt_core.specs.Format.{PartitionTable}
 use Rattle.gpt_core.specs.Tables.{table_in, IsFairDisk}
 use Rattle.boot_core.specs.Changes.{Change, Firmware, Record, Table, Kernel, flash_with, disk_with, spaces_with, record_with, table_with, device_of, counters_on, calls_on}
 use Rattle.boot_core.specs.Carries.{Targets, Frame, IsMade, Fails, EndsBetween, EndsIn, EndsAt, OldOrNew}
-use Rattle.boot_core.specs.Boots.{BootPlan, State, state_of, changed_state, IsTold, MayHaveMade, HasNoRecord, HasNoTable, AtFault}
+use Rattle.boot_core.specs.Steps.{IsTold}
+use Rattle.boot_core.specs.Boots.{BootPlan, State, state_of, changed_state, MayHaveMade, HasNoRecord, HasNoTable, AtFault}
 use Rattle.boot_core.proofs.Fairness.{fair_flash_from, fair_disk_from}
 
 -- ---- changes that leave a device alone

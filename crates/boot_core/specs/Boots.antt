@@ -1,12 +1,11 @@
 -- What a boot does to its board.
 use Rattle.std.specs.Prelude.{◌≡◌, ◌⊎◌, ℕ, ◌+◌, ◌<◌, ◌≤◌, List, [], ◌∷◌, length, take, drop, fold, Bool, true, false, IsTrue, IsSome, Option, Some, None, Result, Ok, Err, IfOk, OnOk, IfErr}
-use Rattle.record_core.specs.Space.{firmware_fault, kernel_fault, stored_firmware_version, stored_kernel_version}
-use Rattle.fwsel_core.specs.declared.slot.Slot.{Slot}
 use Rattle.fwsel_core.specs.declared.boot_mode.Mode.{Mode}
 use Rattle.fwsel_core.specs.declared.boot_mode.Mode.TheVariants.{Normal, Developer}
 use Rattle.fwsel_core.specs.Mode.{mode_of}
 use Rattle.fwsel_core.specs.Selection.{selected_slot}
 use Rattle.chain_core.specs.Slot.{slot_fault, slot_ok}
+use Rattle.record_core.specs.Space.{firmware_fault, kernel_fault, stored_firmware_version, stored_kernel_version}
 use Rattle.board_core.specs.declared.counters.FuseState.TheVariants.{Armed, Dead}
 use Rattle.board_core.specs.declared.device.Fault.{Fault}
 use Rattle.board_core.specs.Counters.{Rose}
@@ -17,18 +16,25 @@ use Rattle.nvstore_core.specs.declared.state.NvState.{NvState}
 use Rattle.nvstore_core.specs.Pages.{record_in, empty_state}
 use Rattle.nvstore_core.specs.Saving.{KeepsWritten}
 use Rattle.nvstore_core.specs.Fair.{IsFairFlash}
+use Rattle.gpt_core.specs.Format.{PartitionTable}
+use Rattle.gpt_core.specs.Tables.{table_in, table_on, IsFairDisk}
+use Rattle.walk_core.specs.Chosen.{is_good_candidate}
+use Rattle.walk_core.specs.Seen.{copies_agree}
 use Rattle.boot_core.specs.declared.switches.Switches.{Switches}
 use Rattle.boot_core.specs.declared.found.Found.{Found}
+use Rattle.boot_core.specs.declared.outcome.Hand.{Hand}
 use Rattle.boot_core.specs.declared.outcome.Outcome.{Outcome}
 use Rattle.boot_core.specs.declared.outcome.Outcome.TheVariants as outcome
 use Rattle.boot_core.specs.declared.plan.Plan.{Plan}
-use Rattle.gpt_core.specs.Format.{PartitionTable}
-use Rattle.gpt_core.specs.Tables.{table_in, IsFairDisk}
 use Rattle.boot_core.specs.Changes.{Change, Record, Table, spaces_with, record_with, table_with, device_of, counters_on, calls_on}
 use Rattle.boot_core.specs.Carries.{Targets, CountsBoard, Frame, IsMade}
-use Rattle.boot_core.specs.Slots.{slot_asked, HoldsFirmware}
-use Rattle.boot_core.specs.Plan.{found_of, facts_of, IsNoLower, plan_of, changes_of, targets_at}
-use Rattle.boot_core.specs.Steps.{locks_at}
+use Rattle.boot_core.specs.Spaces.{IsNoLower}
+use Rattle.boot_core.specs.Facts.{found_of, facts_of}
+use Rattle.boot_core.specs.Slots.{slot_asked}
+use Rattle.boot_core.specs.Drives.{Look, asked_at, no_table, table_after_look}
+use Rattle.boot_core.specs.Plan.{slot_look, plan_of, look_of, changes_of}
+use Rattle.boot_core.specs.Hands.{Handed, HoldsHand}
+use Rattle.boot_core.specs.Steps.{IsTold, IsFromDisk, ReadsAtMost, to_of, locks_at}
 
 -- ---- the plan
 
@@ -40,16 +46,17 @@ pub record BootPlan : Type 0 where
   pub state : NvState
 
 -- that of a plan over what was found
-abbrev pub boot_plan_of : Found → Plan → BootPlan
-boot_plan_of found plan =
-    record { outcome = plan.outcome; changes = changes_of plan; to = targets_at found.map.nvram.at; state = found.state }
+abbrev pub boot_plan_of : Found → Plan → PartitionTable → BootPlan
+boot_plan_of found plan table =
+    record { outcome = plan.outcome; changes = changes_of plan; to = to_of found table; state = found.state }
 
 -- that of a flash whose map has a fault: nothing is changed
 abbrev pub bad_flash_plan : MapFault → BootPlan
-bad_flash_plan fault = record { outcome = outcome.BadFlash fault; changes = []; to = targets_at 0; state = empty_state }
+bad_flash_plan fault =
+    record { outcome = outcome.BadFlash fault; changes = []; to = record { area = 0; table = no_table }; state = empty_state }
 
 abbrev pub boot_plan_by : Switches → World → Result Found MapFault → BootPlan
-boot_plan_by sw w (Ok found) = boot_plan_of found (plan_of sw found w)
+boot_plan_by sw w (Ok found) = boot_plan_of found (plan_of sw found w) (table_after_look (look_of sw found w) w)
 boot_plan_by sw w (Err fault) = bad_flash_plan fault
 
 unfoldable pub boot_plan : Switches → World → BootPlan
@@ -60,14 +67,25 @@ abbrev pub slot_mode : Bool → Mode
 slot_mode false = Normal
 slot_mode true = Developer
 
--- A good slot is not refused: where the mode of a board boots a slot, and the table of the selected one finds no fault, the plan
--- goes on with it.
-abbrev pub TakesGoodSlot : Type 0
-TakesGoodSlot =
+abbrev pub IsHandOver : Outcome → Type 0
+IsHandOver (outcome.HandOver hand) = Unit {0}
+IsHandOver other = ⊥
+
+-- No good choice is refused: where the mode of a board boots a slot, the table of the selected one finds no fault, and some
+-- candidate of the drive is good by its key and rules, the plan hands over.
+abbrev pub TakesGoodChoice : Type 0
+TakesGoodChoice =
     (sw : Switches) (w : World) (found : Found) (developer : Bool) → found_of w ≡ Ok found
     → mode_of (facts_of sw found) ≡ slot_mode developer
-    → let slot = selected_slot found.state.nv in let ok = slot_ok (slot_asked found slot w) in
-    slot_fault (slot_asked found slot w) ≡ None → (boot_plan sw w).outcome ≡ outcome.Verified developer slot ok.version ok.body_len
+    → let q = slot_asked found (selected_slot found.state.nv) w in
+    slot_fault q ≡ None → let d = asked_at (slot_look sw found developer (slot_ok q)) w in
+    (table : PartitionTable) → table_on d.disk.medium ≡ Some table → (k : ℕ) → k < 128 → is_good_candidate d table.entries k ≡ true
+    → IsHandOver (boot_plan sw w).outcome
+
+-- where a boot looks for a kernel
+abbrev pub look_found : Switches → World → Result Found MapFault → Option Look
+look_found sw w (Ok found) = look_of sw found w
+look_found sw w (Err fault) = None
 
 -- ---- the state that a board stands for
 
@@ -93,14 +111,6 @@ state_after plan count w = fold (changed_state plan.to.table) (state_of plan.to.
 -- the spaces after so many changes of a plan
 abbrev pub spaces_after : BootPlan → ℕ → Spaces → Spaces
 spaces_after plan count spaces = fold spaces_with spaces (take count plan.changes)
-
--- all devices tell what they hold
-pub record IsTold (w : World) : Type 0 where
-  pub flash : IsTrue w.flash.medium.told
-  pub tpm : IsTrue w.tpm.told
-  pub disk : IsTrue w.disk.medium.told
-  pub stick : IsTrue w.stick.medium.told
-  pub hook : IsTrue w.hook.told
 
 -- ---- a fault
 
@@ -168,21 +178,20 @@ pub record NeverFall (old new : Spaces) : Type 0 where
 
 -- ---- what is handed over
 
--- The firmware that is handed over is that of the slot on this board: its chain from the root key is accepted, and where
--- versions are checked it is no older than the stored one.
-pub record HandsFirmware (w : World) (slot : Slot) (version len : ℕ) (handed : List ℕ) : Type 0 where
+-- What is handed over is what the board holds: the firmware of the slot, and the kernel of the partition.
+pub record Hands (sw : Switches) (w : World) (handed : Handed) (hand : Hand) : Type 0 where
   pub found : Found
   pub found_is : found_of w ≡ Ok found
-  pub holds : HoldsFirmware (slot_asked found slot w) version len handed
+  pub holds : HoldsHand sw found w handed hand
 
-abbrev pub HandsOver : World → List ℕ → Outcome → Type 0
-HandsOver w handed (outcome.Verified developer slot version len) = HandsFirmware w slot version len handed
-HandsOver w handed other = Unit {0}
+abbrev pub HandsOver : Switches → World → Handed → Outcome → Type 0
+HandsOver sw w handed (outcome.HandOver hand) = Hands sw w handed hand
+HandsOver sw w handed other = Unit {0}
 
 -- ---- a boot
 
--- One boot over a board. `handed` is the firmware that the room hands out after it.
-pub record Boots (sw : Switches) (old new : World) (handed : List ℕ) (answer : Result Outcome Fault) : Type 0 where
+-- One boot over a board. `handed` is what the room hands out after it.
+pub record Boots (sw : Switches) (old new : World) (handed : Handed) (answer : Result Outcome Fault) : Type 0 where
   -- its plan is that of the board, where the devices tell what they hold
   pub plan : BootPlan
   pub planned : IsTold old → plan ≡ boot_plan sw old
@@ -196,7 +205,9 @@ pub record Boots (sw : Switches) (old new : World) (handed : List ℕ) (answer :
   pub made : OnOk answer (IsMade plan.to plan.changes old new)
   pub locks : IfOk answer (λ outcome. new.tpm.locks ≡ locks_at outcome)
   pub fault : IfErr answer (λ fault. AtFault plan fault old new)
-  -- where the boot goes on, the firmware that is handed over has the chain of its slot
-  pub hands : IsTold old → IfOk answer (HandsOver old handed)
+  -- where the boot goes on, what is handed over has its chain, and from the disk both copies of its table agree then
+  pub hands : IsTold old → IfOk answer (HandsOver sw old handed)
+  pub agree : IsTold old → IfOk answer (λ outcome. IsFromDisk outcome → IsTrue (copies_agree new.disk.medium))
   -- at every answer
   pub versions : IsTrue old.tpm.told → NeverFall old.tpm.spaces new.tpm.spaces
+  pub reads : IsTold old → ReadsAtMost (look_found sw old (found_of old)) old new

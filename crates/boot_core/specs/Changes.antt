@@ -1,5 +1,5 @@
 -- The changes of a boot, and what each makes of what the devices hold.
-use Rattle.std.specs.Prelude.{ℕ, ◌+◌, List, [], ◌∷◌, Option, Some, if◌then◌else◌}
+use Rattle.std.specs.Prelude.{ℕ, ◌+◌, Bool, true, false, List, [], ◌∷◌, Option, Some, None, if◌then◌else◌}
 use Rattle.board_core.specs.declared.counters.Counters.{Counters}
 use Rattle.board_core.specs.declared.device.Device.{Device}
 use Rattle.board_core.specs.declared.device.Device.TheVariants as device
@@ -20,6 +20,16 @@ pub data Change : Type 0 where
   Record : List ℕ → Change
   Table : Change
   Kernel : List ℕ → Change
+
+-- a change or none
+abbrev pub listed : (List ℕ → Change) → Option (List ℕ) → List Change
+listed change None = []
+listed change (Some bytes) = change bytes ∷ []
+
+-- the table, where it is to be written
+abbrev pub tabled : Bool → List Change
+tabled false = []
+tabled true = Table ∷ []
 
 -- ---- what a change makes of each device
 

@@ -1,7 +1,11 @@
 pub mod Changes
 pub mod Carries
+pub mod Spaces
+pub mod Facts
 pub mod Slots
+pub mod Drives
 pub mod Plan
+pub mod Hands
 pub mod Steps
 pub mod Boots
 pub mod Beside

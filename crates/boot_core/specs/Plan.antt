@@ -1,214 +1,255 @@
 -- The plan of a boot: its outcome and its changes, as one function of what the devices hold.
-use Rattle.std.specs.Prelude.{ℕ, ◌≤◌, nat_lt, Bool, true, false, List, [], ◌∷◌, ◌++◌, Option, Some, None, Result, Ok, Err, ◌==◌, ◌&&◌, not, if◌then◌else◌}
-use Rattle.std.specs.Str.{bytes_eq}
-use Rattle.record_core.specs.declared.field.NvField.TheVariants as field
+-- Source: `vb2api_fw_phase1` to `vb2api_fw_phase3` and `vb2api_kernel_phase1` to `vb2api_kernel_finalize` of vboot_reference
+-- (firmware/2lib/2api.c and 2kernel.c), and `vb2_developer_ui` and `vb2_manual_recovery_ui` for what a person asks for.
+use Rattle.std.specs.Prelude.{ℕ, ◌&&◌, not, Bool, true, false, List, ◌++◌, Option, Some, None, Result, Ok, Err, if◌then◌else◌}
 use Rattle.record_core.specs.declared.space.SpaceFault.{SpaceFault}
-use Rattle.record_core.specs.Field.{field_of}
-use Rattle.record_core.specs.Nv.{with_field}
-use Rattle.record_core.specs.Space.{fault_number, firmware_fault, kernel_fault, good_bytes, firmware_flags, with_firmware_flags, stored_firmware_version, firmware_versions, with_firmware_versions}
+use Rattle.record_core.specs.Space.{firmware_flags}
 use Rattle.fwsel_core.specs.declared.boot_mode.Mode.{Mode}
 use Rattle.fwsel_core.specs.declared.boot_mode.Mode.TheVariants.{Normal, Developer, Manual, Broken}
-use Rattle.fwsel_core.specs.declared.boot_mode.ModeFacts.{ModeFacts}
-use Rattle.fwsel_core.specs.Mode.{mode_of}
-use Rattle.fwsel_core.specs.Flags.{flags_after_boot}
-use Rattle.fwsel_core.specs.declared.selection.Selection.{Selection}
-use Rattle.fwsel_core.specs.Slot.{slot_number}
-use Rattle.fwsel_core.specs.Selection.{selected_slot, selected_record, selection_of}
+use Rattle.fwsel_core.specs.Mode.{has_flag, space_developer_mode, mode_of}
+use Rattle.fwsel_core.specs.Selection.{selected_slot, selection_of}
 use Rattle.fwsel_core.specs.Failure.{asks_for_recovery, failed_record}
 use Rattle.chain_core.specs.SlotNumbers.{reason_of, subcode_of}
 use Rattle.chain_core.specs.declared.slot_fault.SlotOk.{SlotOk}
 use Rattle.chain_core.specs.declared.slot_fault.SlotFault.{SlotFault}
+use Rattle.kernel_core.specs.declared.rules.BootMode.{BootMode}
+use Rattle.kernel_core.specs.declared.rules.BootMode.TheVariants as boot_mode
+use Rattle.walk_core.specs.Seen.{kernel_of}
+use Rattle.walk_core.specs.declared.walked.Kernel.{Kernel}
+use Rattle.walk_core.specs.declared.drive.Seen.{Seen}
+use Rattle.walk_core.specs.declared.drive.Seen.TheVariants as seen
 use Rattle.board_core.specs.World.{World}
-use Rattle.rom_core.specs.declared.map.Map.{Map}
-use Rattle.rom_core.specs.declared.fault.MapFault.{MapFault}
-use Rattle.rom_core.specs.declared.fault.GbbFault.{GbbFault}
-use Rattle.rom_core.specs.declared.gbb.Gbb.{Gbb}
-use Rattle.rom_core.specs.Gbb.{area_bytes}
-use Rattle.rom_core.specs.Reading.{map_question}
-use Rattle.rom_core.specs.Decoded.{flash_map, gbb_of}
-use Rattle.rom_core.specs.Faults.{gbb_fault_number}
-use Rattle.nvstore_core.specs.declared.state.NvState.{NvState}
-use Rattle.nvstore_core.specs.Pages.{state_in}
 use Rattle.boot_core.specs.declared.switches.Switches.{Switches}
 use Rattle.boot_core.specs.declared.found.Found.{Found}
+use Rattle.boot_core.specs.declared.drives.Drive.{Drive}
+use Rattle.boot_core.specs.declared.drives.Drive.TheVariants.{Disk, Stick}
+use Rattle.boot_core.specs.declared.outcome.Hand.{Hand}
+use Rattle.boot_core.specs.declared.outcome.Outcome.{Outcome}
 use Rattle.boot_core.specs.declared.outcome.Outcome.TheVariants as outcome
 use Rattle.boot_core.specs.declared.plan.Plan.{Plan}
-use Rattle.gpt_core.specs.Format.{PartitionTable}
+use Rattle.boot_core.specs.Changes.{Change, Firmware, Record, Kernel as KernelSpace, listed, tabled}
+use Rattle.boot_core.specs.Spaces.{booted_record, screened_record, enabled_record, disables_dev, is_trying, record_change, second_change}
+use Rattle.boot_core.specs.Spaces.{flags_change, version_change, enabling_change, firmware_stored, firmware_stored_after}
+use Rattle.boot_core.specs.Spaces.{kernel_change, kernel_stored, kernel_stored_after}
+use Rattle.boot_core.specs.Facts.{facts_of}
 use Rattle.boot_core.specs.Slots.{slot_asked, slot_answer}
-use Rattle.boot_core.specs.Changes.{Change, Firmware, Record}
-use Rattle.boot_core.specs.Carries.{Targets}
+use Rattle.boot_core.specs.Drives.{Look, drive_of, rules_of, recovery_of, seen_on}
 
--- ---- the records that a boot leaves
+-- ---- the recovery reasons and subcodes of a boot
 
--- the selected one, and developer mode is no longer to be switched off
-abbrev pub booted_record : List ℕ → List ℕ
-booted_record r = with_field (selected_record r) field.DisableDev 0
+-- a recovery by hand
+abbrev pub reason_manual : ℕ
+reason_manual = 2
 
--- the request for a recovery is taken back
-abbrev pub screened_record : List ℕ → List ℕ
-screened_record r = with_field (with_field r field.RecoveryRequest 0) field.RecoverySubcode 0
+-- the disk has no table
+abbrev pub reason_no_table : ℕ
+reason_no_table = 30
 
--- ---- the changes, each left out where it would change nothing
+-- no kernel of the disk is good
+abbrev pub reason_no_kernel : ℕ
+reason_no_kernel = 31
 
--- a good record stands, and it is this one
-abbrev pub is_standing : NvState → List ℕ → Bool
-is_standing state r = state.stands && bytes_eq state.nv r
+-- the stick of a developer has no good kernel
+abbrev pub reason_no_external : ℕ
+reason_no_external = 32
 
-abbrev pub record_change : NvState → List ℕ → Option (List ℕ)
-record_change state r = if is_standing state r then None else Some r
+-- why a stick is not booted: it has no table, or no kernel of it is good
+abbrev pub missing_subcode : Seen → ℕ
+missing_subcode seen.NoTable = 1
+missing_subcode (seen.Table walked changed) = 2
 
--- the firmware space with the flags after a boot
-abbrev pub booted_firmware : List ℕ → Bool → Bool → List ℕ
-booted_firmware space developer disable_dev = with_firmware_flags space (flags_after_boot (firmware_flags space) developer disable_dev)
+-- ---- without a good slot
 
--- the result of a boot that came to its end
-abbrev pub success : ℕ
-success = 2
-
--- the boot before tried the same slot, and came to its end
-abbrev pub has_succeeded : Selection → Bool
-has_succeeded selection = (slot_number selection.last_slot == slot_number selection.slot) && (selection.last_result == success)
-
--- The stored version of the firmware after a good slot: that of the slot, where it is over the stored one and the slot came to
--- its end in the boot before.
-abbrev pub new_firmware_version : Selection → (stored version : ℕ) → ℕ
-new_firmware_version selection stored version = if nat_lt stored version && has_succeeded selection then version else stored
-
--- the firmware space after a good slot
-abbrev pub raised_firmware : List ℕ → Bool → Bool → Selection → ℕ → List ℕ
-raised_firmware space developer disable_dev selection version =
-    with_firmware_versions (booted_firmware space developer disable_dev) (new_firmware_version selection (firmware_versions space) version)
-
-abbrev pub space_change : List ℕ → List ℕ → Option (List ℕ)
-space_change old new = if bytes_eq new old then None else Some new
-
--- the flags alone
-abbrev pub flags_change : Result (List ℕ) SpaceFault → Bool → Bool → Option (List ℕ)
-flags_change (Err fault) developer disable_dev = None
-flags_change (Ok space) developer disable_dev = space_change space (booted_firmware space developer disable_dev)
-
--- flags and version
-abbrev pub version_change : Result (List ℕ) SpaceFault → Bool → Bool → Selection → ℕ → Option (List ℕ)
-version_change (Err fault) developer disable_dev selection version = None
-version_change (Ok space) developer disable_dev selection version =
-    space_change space (raised_firmware space developer disable_dev selection version)
-
--- a version that stands is not lower, and stands
-abbrev pub IsNoLower : Option ℕ → Option ℕ → Type 0
-IsNoLower None now = Unit {0}
-IsNoLower (Some version) None = ⊥
-IsNoLower (Some version) (Some now) = version ≤ now
-
--- the version of the new space is no lower than that of the old one, which is good
-abbrev pub RaisesVersion : Result (List ℕ) SpaceFault → List ℕ → Type 0
-RaisesVersion (Err fault) new = ⊥
-RaisesVersion (Ok old) new = IsNoLower (stored_firmware_version old) (stored_firmware_version new)
-
--- ---- what the mode is decided from
-
-abbrev pub gbb_fact : Result Gbb GbbFault → Result ℕ ℕ
-gbb_fact (Ok gbb) = Ok gbb.flags
-gbb_fact (Err fault) = Err (gbb_fault_number fault)
-
-abbrev pub flags_fact : Result (List ℕ) SpaceFault → Result ℕ ℕ
-flags_fact (Ok space) = Ok (firmware_flags space)
-flags_fact (Err fault) = Err (fault_number fault)
-
-abbrev pub kernel_fact : Result (List ℕ) SpaceFault → Option ℕ
-kernel_fact (Ok space) = None
-kernel_fact (Err fault) = Some (fault_number fault)
-
-abbrev pub facts_of : Switches → Found → ModeFacts
-facts_of sw found = record {
-  recovery = sw.recovery;
-  gbb = gbb_fact found.gbb;
-  firmware = flags_fact found.firmware;
-  kernel = kernel_fact found.kernel;
-  nv = found.state.nv;
-}
-
--- ---- the plan of what was found, by its mode
-
--- developer mode is to be switched off
-abbrev pub disables_dev : List ℕ → Bool
-disables_dev r = not (field_of r field.DisableDev == 0)
-
--- the boot goes on with a good slot
-abbrev pub good_plan_of : Found → Bool → SlotOk → Plan
-good_plan_of found developer ok = record {
-  outcome = outcome.Verified developer (selected_slot found.state.nv) ok.version ok.body_len;
-  firmware = version_change found.firmware developer (disables_dev found.state.nv) (selection_of found.state.nv) ok.version;
-  nv = record_change found.state (booted_record found.state.nv);
-}
-
--- the slot has a fault: the other one is to be tried next, or a recovery is asked for
-abbrev pub reboot_plan_of : Found → Bool → SlotFault → Plan
-reboot_plan_of found developer fault = record {
-  outcome = outcome.Reboot (reason_of fault) (subcode_of fault)
-      (asks_for_recovery (Some (selection_of found.state.nv)) (booted_record found.state.nv));
-  firmware = flags_change found.firmware developer (disables_dev found.state.nv);
-  nv = record_change found.state (failed_record (Some (selection_of found.state.nv)) (reason_of fault) (subcode_of fault)
-      (booted_record found.state.nv));
-}
-
-abbrev pub slot_plan_of : Found → Bool → Result SlotOk SlotFault → Plan
-slot_plan_of found developer (Ok ok) = good_plan_of found developer ok
-slot_plan_of found developer (Err fault) = reboot_plan_of found developer fault
+-- the record alone is changed
+abbrev pub record_plan : Outcome → Option (List ℕ) → Plan
+record_plan outcome nv = record { outcome = outcome; firmware = None; nv = nv; table = false; kernel = None; last = None }
 
 -- a screen asks for a recovery
 abbrev pub screen_plan_of : Found → ℕ → ℕ → Plan
 screen_plan_of found reason subcode =
-    record { outcome = outcome.Screen reason subcode; firmware = None; nv = record_change found.state (screened_record found.state.nv) }
+    record_plan (outcome.Screen reason subcode) (record_change found.state (screened_record found.state.nv))
+
+-- a failure asks for a recovery
+abbrev pub is_requested : Found → Bool
+is_requested found = asks_for_recovery (Some (selection_of found.state.nv)) (booted_record found.state.nv)
+
+-- the record after a failure
+abbrev pub rebooted_record : Found → (reason subcode : ℕ) → List ℕ
+rebooted_record found reason subcode = failed_record (Some (selection_of found.state.nv)) reason subcode (booted_record found.state.nv)
+
+-- the slot has a fault: the other one is to be tried next, or a recovery is asked for
+abbrev pub reboot_plan_of : Found → Bool → SlotFault → Plan
+reboot_plan_of found developer fault = record {
+  outcome = outcome.Reboot (reason_of fault) (subcode_of fault) (is_requested found);
+  firmware = flags_change found.firmware developer (disables_dev found.state.nv);
+  nv = record_change found.state (rebooted_record found (reason_of fault) (subcode_of fault));
+  table = false;
+  kernel = None;
+  last = None;
+}
+
+-- ---- with a good slot
+
+-- the mode of its boot
+abbrev pub boot_mode_of : Bool → BootMode
+boot_mode_of false = boot_mode.Normal
+boot_mode_of true = boot_mode.Developer
+
+-- first the firmware space and the record, and then these
+abbrev pub good_plan_of : Found → Bool → SlotOk → Outcome → (table : Bool) → (kernel last : Option (List ℕ)) → Plan
+good_plan_of found developer ok outcome table kernel last = record {
+  outcome = outcome;
+  firmware = version_change found.firmware developer (disables_dev found.state.nv) (selection_of found.state.nv) ok.version;
+  nv = record_change found.state (booted_record found.state.nv);
+  table = table;
+  kernel = kernel;
+  last = last;
+}
+
+-- what is handed over: the firmware of the slot, and this kernel
+abbrev pub hand_of : Found → Bool → SlotOk → Drive → Kernel → (stored_kernel : Option ℕ) → Hand
+hand_of found developer ok drive kernel stored_kernel = record {
+  mode = boot_mode_of developer;
+  drive = drive;
+  slot = Some (selected_slot found.state.nv);
+  fw_version = ok.version;
+  fw_len = ok.body_len;
+  partition = kernel.partition;
+  kernel_version = kernel.version;
+  kernel_len = kernel.body_len;
+  load_address = kernel.load_address;
+  stored_fw = firmware_stored_after found.firmware (selection_of found.state.nv) ok.version;
+  stored_kernel = stored_kernel;
+}
+
+-- nothing is written to a stick
+abbrev pub stick_plan_of : Found → Bool → SlotOk → (subcode : ℕ) → Option Kernel → Plan
+stick_plan_of found developer ok subcode (Some kernel) =
+    good_plan_of found developer ok (outcome.HandOver (hand_of found developer ok Stick kernel (kernel_stored found.kernel))) false None None
+stick_plan_of found developer ok subcode None = good_plan_of found developer ok (outcome.Screen reason_no_external subcode) false None None
+
+-- the disk cannot be booted: after the record of the attempt comes that of its failure
+abbrev pub failed_plan_of : Found → Bool → SlotOk → (reason : ℕ) → (table : Bool) → Plan
+failed_plan_of found developer ok reason table =
+    good_plan_of found developer ok (outcome.Reboot reason 0 (is_requested found)) table None
+    (second_change (booted_record found.state.nv) (rebooted_record found reason 0))
+
+abbrev pub disk_plan_of : Found → Bool → SlotOk → Option Kernel → (lowest : ℕ) → (changed : Bool) → Plan
+disk_plan_of found developer ok None lowest changed = failed_plan_of found developer ok reason_no_kernel changed
+disk_plan_of found developer ok (Some kernel) lowest changed =
+    let on_trial = is_trying (booted_record found.state.nv) in
+    good_plan_of found developer ok
+    (outcome.HandOver (hand_of found developer ok Disk kernel (kernel_stored_after found.kernel on_trial lowest))) changed
+    (kernel_change found.kernel on_trial lowest) None
+
+-- by the drive, and what is seen on it
+abbrev pub drive_plan_of : Found → Bool → SlotOk → Drive → Seen → Plan
+drive_plan_of found developer ok Stick what = stick_plan_of found developer ok (missing_subcode what) (kernel_of what)
+drive_plan_of found developer ok Disk seen.NoTable = failed_plan_of found developer ok reason_no_table false
+drive_plan_of found developer ok Disk (seen.Table walked changed) = disk_plan_of found developer ok walked.chosen walked.lowest changed
+
+-- where it is looked for a kernel
+abbrev pub slot_look : Switches → Found → Bool → SlotOk → Look
+slot_look sw found developer ok =
+    record { drive = drive_of sw found developer; key = ok.subkey; rules = rules_of sw found (boot_mode_of developer) }
+
+abbrev pub kernel_plan_of : Switches → Found → Bool → SlotOk → World → Plan
+kernel_plan_of sw found developer ok w =
+    drive_plan_of found developer ok (drive_of sw found developer)
+    (seen_on (drive_of sw found developer) ok.subkey (rules_of sw found (boot_mode_of developer)) w)
 
 -- what the check of the selected slot finds
 abbrev pub selected_answer : Found → World → Result SlotOk SlotFault
 selected_answer found w = slot_answer (slot_asked found (selected_slot found.state.nv) w)
 
-abbrev pub plan_in : Mode → Found → World → Plan
-plan_in Manual found w = record { outcome = outcome.ManualRecovery; firmware = None; nv = None }
-plan_in (Broken reason subcode) found w = screen_plan_of found reason subcode
-plan_in Normal found w = slot_plan_of found false (selected_answer found w)
-plan_in Developer found w = slot_plan_of found true (selected_answer found w)
+abbrev pub slot_plan_of : Switches → Found → Bool → Result SlotOk SlotFault → World → Plan
+slot_plan_of sw found developer (Ok ok) w = kernel_plan_of sw found developer ok w
+slot_plan_of sw found developer (Err fault) w = reboot_plan_of found developer fault
 
--- the plan, with what is found and the slots of this board
-unfoldable pub plan_of : Switches → Found → World → Plan
-plan_of sw found w = plan_in (mode_of (facts_of sw found)) found w
+-- ---- a recovery by hand
 
--- ---- what is to be found
+-- developer mode is asked for, and is off
+abbrev pub enables_dev : Switches → Result (List ℕ) SpaceFault → Bool
+enables_dev sw (Ok space) = sw.enable_dev && not (has_flag (firmware_flags space) space_developer_mode)
+enables_dev sw (Err fault) = false
 
--- in a board whose flash has this map
-unfoldable pub found_in : Map → World → Found
-found_in map w = record {
-  map = map;
-  state = state_in map.nvram.at w.flash.medium.bytes;
-  gbb = gbb_of (area_bytes map.gbb w.flash.medium);
-  firmware = good_bytes (firmware_fault w.tpm.spaces.firmware) w.tpm.spaces.firmware;
-  kernel = good_bytes (kernel_fault w.tpm.spaces.kernel) w.tpm.spaces.kernel;
+abbrev pub enabling_plan_of : Found → Plan
+enabling_plan_of found = record {
+  outcome = outcome.DevEnabled;
+  firmware = enabling_change found.firmware;
+  nv = record_change found.state (enabled_record found.state.nv);
+  table = false;
+  kernel = None;
+  last = None;
 }
 
--- the map that was read
-abbrev pub found_by : Result Map MapFault → World → Result Found MapFault
-found_by (Ok map) w = Ok (found_in map w)
-found_by (Err fault) w = Err fault
+-- a kernel of the stick is handed over, and no firmware
+abbrev pub recovery_hand_of : Found → Kernel → Hand
+recovery_hand_of found kernel = record {
+  mode = boot_mode.Recovery;
+  drive = Stick;
+  slot = None;
+  fw_version = 0;
+  fw_len = 0;
+  partition = kernel.partition;
+  kernel_version = kernel.version;
+  kernel_len = kernel.body_len;
+  load_address = kernel.load_address;
+  stored_fw = firmware_stored found.firmware;
+  stored_kernel = kernel_stored found.kernel;
+}
 
-unfoldable pub found_of : World → Result Found MapFault
-found_of w = found_by (flash_map (map_question w.map_at w.flash.medium)) w
+abbrev pub recovery_outcome : Found → (subcode : ℕ) → Option Kernel → Outcome
+recovery_outcome found subcode (Some kernel) = outcome.HandOver (recovery_hand_of found kernel)
+recovery_outcome found subcode None = outcome.Screen reason_manual subcode
+
+abbrev pub recovery_plan_of : Found → Seen → Plan
+recovery_plan_of found what =
+    record_plan (recovery_outcome found (missing_subcode what) (kernel_of what)) (record_change found.state (screened_record found.state.nv))
+
+abbrev pub recovery_look : Switches → Found → Look
+recovery_look sw found = record { drive = Stick; key = recovery_of found.gbb; rules = rules_of sw found boot_mode.Recovery }
+
+abbrev pub manual_plan_of : Switches → Found → World → Plan
+manual_plan_of sw found w =
+    if enables_dev sw found.firmware then enabling_plan_of found
+    else recovery_plan_of found (seen_on Stick (recovery_of found.gbb) (rules_of sw found boot_mode.Recovery) w)
+
+-- ---- by the mode
+
+abbrev pub plan_in : Mode → Switches → Found → World → Plan
+plan_in Manual sw found w = manual_plan_of sw found w
+plan_in (Broken reason subcode) sw found w = screen_plan_of found reason subcode
+plan_in Normal sw found w = slot_plan_of sw found false (selected_answer found w) w
+plan_in Developer sw found w = slot_plan_of sw found true (selected_answer found w) w
+
+-- the plan, with what is found, and the slots and drives of this board
+unfoldable pub plan_of : Switches → Found → World → Plan
+plan_of sw found w = plan_in (mode_of (facts_of sw found)) sw found w
+
+-- ---- where it looks for a kernel
+
+abbrev pub look_by : Switches → Found → Bool → Result SlotOk SlotFault → Option Look
+look_by sw found developer (Ok ok) = Some (slot_look sw found developer ok)
+look_by sw found developer (Err fault) = None
+
+abbrev pub look_in : Mode → Switches → Found → World → Option Look
+look_in Manual sw found w = if enables_dev sw found.firmware then None else Some (recovery_look sw found)
+look_in (Broken reason subcode) sw found w = None
+look_in Normal sw found w = look_by sw found false (selected_answer found w)
+look_in Developer sw found w = look_by sw found true (selected_answer found w)
+
+-- on a drive, or nowhere
+unfoldable pub look_of : Switches → Found → World → Option Look
+look_of sw found w = look_in (mode_of (facts_of sw found)) sw found w
 
 -- ---- the plan as changes in their order
 
--- a change or none
-abbrev pub listed : (List ℕ → Change) → Option (List ℕ) → List Change
-listed change None = []
-listed change (Some bytes) = change bytes ∷ []
+abbrev pub first_changes : Plan → List Change
+first_changes plan = listed Firmware plan.firmware ++ listed Record plan.nv
+
+abbrev pub later_changes : Plan → List Change
+later_changes plan = tabled plan.table ++ (listed KernelSpace plan.kernel ++ listed Record plan.last)
 
 abbrev pub changes_of : Plan → List Change
-changes_of plan = listed Firmware plan.firmware ++ listed Record plan.nv
-
--- ---- where they go
-
--- no table is written yet
-abbrev pub no_table : PartitionTable
-no_table = record { guid = []; first_usable = 0; last_usable = 0; entries = [] }
-
-abbrev pub targets_at : ℕ → Targets
-targets_at area = record { area = area; table = no_table }
+changes_of plan = first_changes plan ++ later_changes plan

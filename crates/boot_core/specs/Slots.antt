@@ -1,6 +1,6 @@
 -- The slot that a boot verifies: what is asked of it on a board, and what is known of its firmware where it is good.
 -- Source: `vb2api_fw_phase3` of vboot_reference (firmware/2lib/2api.c); the flags of the GBB are those of 2gbb_flags.h.
-use Rattle.std.specs.Prelude.{◌≡◌, ℕ, ◌≤◌, Bool, true, not, IsTrue, List, length, replicate, Option, Result, Ok, Err}
+use Rattle.std.specs.Prelude.{◌≡◌, ℕ, ◌≤◌, Bool, true, not, IsTrue, if◌then◌else◌, List, [], length, replicate, Result, Ok, Err}
 use Rattle.std.specs.Option.{option_map_or}
 use Rattle.record_core.specs.declared.space.SpaceFault.{SpaceFault}
 use Rattle.record_core.specs.Space.{firmware_versions}
@@ -18,8 +18,6 @@ use Rattle.chain_core.specs.Slot.{SlotQuestion, slot_question, slot_fault, slot_
 use Rattle.chain_core.specs.declared.slot_fault.SlotOk.{SlotOk}
 use Rattle.chain_core.specs.declared.slot_fault.SlotFault.{SlotFault}
 use Rattle.boot_core.specs.declared.found.Found.{Found}
-use Rattle.boot_core.specs.declared.outcome.Outcome.{Outcome}
-use Rattle.boot_core.specs.declared.outcome.Outcome.TheVariants as outcome
 
 -- ---- what is asked
 
@@ -75,7 +73,6 @@ pub record HoldsFirmware (q : SlotQuestion) (version len : ℕ) (bytes : List �
   pub body : bytes ≡ slot_body q
   pub many : length bytes ≡ len
 
--- so it is where the boot goes on with a slot
-abbrev pub HoldsOutcome : Found → World → List ℕ → Outcome → Type 0
-HoldsOutcome found w bytes (outcome.Verified developer slot version len) = HoldsFirmware (slot_asked found slot w) version len bytes
-HoldsOutcome found w bytes other = Unit {0}
+-- the firmware that a room hands out: the body of a slot, where one was taken
+abbrev pub taken_firmware : (taken : Bool) → List ℕ → List ℕ
+taken_firmware taken body = if taken then body else []

@@ -2,15 +2,20 @@
 //! TPM are locked where the boot goes on.
 //!
 //! - `switches` has what is set from outside, `outcome` what a boot comes to, `room` its memory, and `found` what it reads first.
-//! - `reading` reads, `planning` makes the plan of what was found, for which `slots` verifies the selected slot, and `plan` has its
-//!   rows; `changing` makes its changes, `locking` locks the spaces, and `booting` is the whole.
+//! - `reading` reads, and `planning` makes the plan of what was found: `slots` verifies the selected slot, `drives` says on which
+//!   drive it is looked for a kernel and by which rules, `drive_seen` looks there, and `plan` has the rows of the plan.
+//! - `spaces` has what a boot makes of the record and of both spaces, `changing` makes the changes, `locking` locks the spaces, and
+//!   `booting` is the whole.
 //!
-//! In specs/, `Slots` is what is asked of a slot, `Plan` the plan as one function of the board, `Changes` what each change makes
-//! of it, `Carries` what a part of a boot promises, and `Boots` what a whole one does.
+//! In specs/, `Facts` is what is found, `Slots` and `Drives` what is asked of a slot and of a drive, `Spaces` what becomes of the
+//! record and the spaces, `Plan` the plan as one function of the board, `Changes` what each change makes of it, `Hands` what is
+//! known of what is handed over, `Carries` what a part of a boot promises, `Steps` what its steps do, and `Boots` a whole one.
 #![tactic(auto)]
 
 mod booting;
 mod changing;
+mod drive_seen;
+mod drives;
 mod found;
 mod laws;
 mod locking;
@@ -20,10 +25,12 @@ mod planning;
 mod reading;
 mod room;
 mod slots;
+mod spaces;
 mod switches;
 
 pub use booting::boot;
-pub use laws::{good_slot_is_taken, nvdata_is_beside};
-pub use outcome::Outcome;
+pub use drives::Drive;
+pub use laws::{good_choice_is_taken, nvdata_is_beside};
+pub use outcome::{Hand, Outcome};
 pub use room::Room;
 pub use switches::{Choice, Switches};

@@ -39,7 +39,7 @@ pub fn lock_at<F: Flash, T: Tpm, D: Disk, E: Disk, H: Hook>(
     ensures { LocksAt outcome done (world F.state T.state H.state p.old) (world F.state T.state H.state p.new) result }
 {
     match outcome {
-        Outcome::Verified { .. } => lock_both(p, done),
+        Outcome::HandOver(_) => lock_both(p, done),
         _ => Ok(()),
     }
 }

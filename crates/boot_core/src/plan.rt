@@ -1,22 +1,41 @@
-// The rows of the plan of a boot: from what was found, the outcome and the changes, before anything is changed.
-ghost use Rattle.std.specs.Prelude.{◌≡◌, ◌≤◌, IfSome, None};
-ghost use Rattle.record_core.specs.Space.{stored_firmware_version};
+// The rows of the plan of a boot: from what was found and seen, the outcome and the changes, before anything is changed. Constants
+// are recovery reasons, subcodes of a screen, and a flag of the firmware space.
+ghost use Rattle.std.specs.Prelude.{◌≡◌, IfSome};
 ghost use Rattle.fwsel_core.specs.Selection.{selection_of};
-ghost use Rattle.boot_core.specs.Plan.{facts_of, good_plan_of, reboot_plan_of, screen_plan_of, gbb_fact, flags_fact, kernel_fact};
-ghost use Rattle.boot_core.specs.Plan.{booted_firmware, new_firmware_version, has_succeeded, space_change, flags_change, version_change};
-ghost use Rattle.boot_core.specs.Plan.{record_change, booted_record, RaisesVersion};
+ghost use Rattle.boot_core.specs.Facts as facts;
+ghost use Rattle.boot_core.specs.Plan as spec;
+ghost use Rattle.boot_core.specs.Spaces.{RaisesVersion, RaisesKernel};
+ghost use Rattle.walk_core.specs.Seen as seen_spec;
 
+use crate::drives::Drive;
 use crate::found::Found;
-use crate::outcome::Outcome;
+use crate::outcome::{Hand, Outcome};
+use crate::spaces::{
+    booted, enabled, enabling_change, firmware_stored, firmware_stored_after, flags_change,
+    is_trying, kernel_change, kernel_stored, kernel_stored_after, record_change, screened,
+    second_change, version_change,
+};
 use crate::switches::Switches;
 use chain_core::{SlotFault, SlotOk};
-use fwsel_core::{ModeFacts, Selection, boot_flags, fail, select};
-use nvstore_core::NvState;
+use fwsel_core::{ModeFacts, Selection, fail};
+use kernel_core::BootMode;
 use record_core::{FwSpace, KernelSpace, Nv, NvField, SpaceFault};
 use rom_core::{Gbb, GbbFault};
+use walk_core::{Kernel, Seen};
 
-// The result of a boot that came to its end, in the record's field `Result`.
-const SUCCESS: u8 = 2;
+const REASON_MANUAL: u8 = 2;
+
+const REASON_NO_TABLE: u8 = 30;
+
+const REASON_NO_KERNEL: u8 = 31;
+
+const REASON_NO_EXTERNAL: u8 = 32;
+
+const NO_TABLE: u8 = 1;
+
+const NO_KERNEL: u8 = 2;
+
+const DEVELOPER_MODE: u8 = 0x02;
 
 /// The outcome of a boot and its changes, in their order. A change that would change nothing is left out.
 #[derive(Clone, Copy, Debug)]
@@ -27,24 +46,19 @@ pub struct Plan {
     pub firmware: Option<FwSpace>,
     /// The nvdata record that is to be stored.
     pub nv: Option<Nv>,
+    /// Whether the table of the room is to be written into both copies of the disk.
+    pub table: bool,
+    /// The kernel space that is to be written.
+    pub kernel: Option<KernelSpace>,
+    /// The nvdata record that is to be stored last.
+    pub last: Option<Nv>,
 }
 
-impl Plan {
-    /// A plan that changes nothing.
-    pub fn unchanged(outcome: Outcome) -> Plan
-        ensures { result ≡ record { outcome = outcome; firmware = None; nv = None } }
-    {
-        Plan {
-            outcome,
-            firmware: None,
-            nv: None,
-        }
-    }
-}
+// ---- what the mode is decided from
 
 /// What the mode of a boot is decided from.
 pub fn facts_of(sw: Switches, found: &Found) -> ModeFacts
-    ensures { result ≡ facts_of sw found.now }
+    ensures { result ≡ facts.facts_of sw found.now }
 {
     ModeFacts {
         recovery: sw.recovery,
@@ -56,7 +70,7 @@ pub fn facts_of(sw: Switches, found: &Found) -> ModeFacts
 }
 
 fn flags_of_gbb(gbb: &Result<Gbb, GbbFault>) -> Result<u32, u8>
-    ensures { result ≡ gbb_fact gbb.now }
+    ensures { result ≡ facts.gbb_fact gbb.now }
 {
     match gbb {
         Ok(gbb) => Ok(gbb.flags),
@@ -65,7 +79,7 @@ fn flags_of_gbb(gbb: &Result<Gbb, GbbFault>) -> Result<u32, u8>
 }
 
 fn flags_or_fault(space: &Result<FwSpace, SpaceFault>) -> Result<u8, u8>
-    ensures { result ≡ flags_fact space.now }
+    ensures { result ≡ facts.flags_fact space.now }
 {
     match space {
         Ok(space) => Ok(space.flags()),
@@ -74,7 +88,7 @@ fn flags_or_fault(space: &Result<FwSpace, SpaceFault>) -> Result<u8, u8>
 }
 
 fn fault_of_kernel(space: &Result<KernelSpace, SpaceFault>) -> Option<u8>
-    ensures { result ≡ kernel_fact space.now }
+    ensures { result ≡ facts.kernel_fact space.now }
 {
     match space {
         Ok(_) => None,
@@ -82,35 +96,37 @@ fn fault_of_kernel(space: &Result<KernelSpace, SpaceFault>) -> Option<u8>
     }
 }
 
-/// The plan of a boot whose slot was selected so and is good.
-pub fn good_plan(found: &Found, developer: bool, selection: Selection, ok: &SlotOk) -> Plan
-    requires { selection ≡ selection_of found.now.state.nv }
-    ensures plan { result ≡ good_plan_of found.now developer ok.now }
-    ensures version { IfSome result.firmware (RaisesVersion found.now.firmware) }
+// ---- without a good slot
+
+// A plan that changes the record alone.
+fn record_plan(outcome: Outcome, nv: Option<Nv>) -> Plan
+    ensures { result ≡ spec.record_plan outcome nv }
 {
-    let disable_dev = found.state.nv.get(NvField::DisableDev) != 0;
     Plan {
-        outcome: Outcome::Verified {
-            developer,
-            slot: selection.slot,
-            version: ok.version,
-            len: ok.body_len,
-        },
-        firmware: version_change(
-            &found.firmware,
-            developer,
-            disable_dev,
-            selection,
-            ok.version,
-        ),
-        nv: record_change(&found.state, &booted(&found.state.nv)),
+        outcome,
+        firmware: None,
+        nv,
+        table: false,
+        kernel: None,
+        last: None,
     }
+}
+
+/// The plan of a boot that ends at a screen: the request for it is taken back.
+pub fn screen_plan(found: &Found, reason: u8, subcode: u8) -> Plan
+    ensures { result ≡ spec.screen_plan_of found.now reason subcode }
+{
+    let next = screened(&found.state.nv);
+    record_plan(
+        Outcome::Screen { reason, subcode },
+        record_change(&found.state, &next),
+    )
 }
 
 /// The plan of a boot whose slot was selected so and has a fault.
 pub fn reboot_plan(found: &Found, developer: bool, selection: Selection, fault: &SlotFault) -> Plan
     requires { selection ≡ selection_of found.now.state.nv }
-    ensures plan { result ≡ reboot_plan_of found.now developer fault.now }
+    ensures plan { result ≡ spec.reboot_plan_of found.now developer fault.now }
     ensures version { IfSome result.firmware (RaisesVersion found.now.firmware) }
 {
     let disable_dev = found.state.nv.get(NvField::DisableDev) != 0;
@@ -126,111 +142,286 @@ pub fn reboot_plan(found: &Found, developer: bool, selection: Selection, fault: 
         },
         firmware: flags_change(&found.firmware, developer, disable_dev),
         nv: record_change(&found.state, &next),
+        table: false,
+        kernel: None,
+        last: None,
     }
 }
 
-/// The plan of a boot that ends at a screen: the request for it is taken back.
-pub fn screen_plan(found: &Found, reason: u8, subcode: u8) -> Plan
-    ensures { result ≡ screen_plan_of found.now reason subcode }
+// ---- with a good slot
+
+/// The mode of a boot that goes on with a slot.
+pub fn boot_mode_of(developer: bool) -> BootMode
+    ensures { result ≡ spec.boot_mode_of developer }
 {
-    let mut next = found.state.nv;
-    next.set(NvField::RecoveryRequest, 0);
-    next.set(NvField::RecoverySubcode, 0);
-    Plan {
-        outcome: Outcome::Screen { reason, subcode },
-        firmware: None,
-        nv: record_change(&found.state, &next),
+    if developer {
+        BootMode::Developer
+    } else {
+        BootMode::Normal
     }
 }
 
-// The record that a boot leaves which goes on with a slot: the selected one, and developer mode is no longer to be switched off.
-fn booted(nv: &Nv) -> Nv
-    ensures { result ≡ booted_record nv.now }
-{
-    let mut next = *nv;
-    select(&mut next);
-    next.set(NvField::DisableDev, 0);
-    next
-}
-
-// The firmware space with the flags after a boot, where it differs.
-fn flags_change(
-    space: &Result<FwSpace, SpaceFault>,
+// A plan that changes the firmware space and the record, and then this.
+fn good_plan(
+    found: &Found,
     developer: bool,
-    disable_dev: bool,
-) -> Option<FwSpace>
-    ensures change { result ≡ flags_change space.now developer disable_dev }
-    ensures version { IfSome result (RaisesVersion space.now) }
-{
-    let Ok(old) = space else {
-        return None;
-    };
-    space_change(old, with_flags(old, developer, disable_dev))
-}
-
-// The firmware space with flags and version after a good slot, where it differs.
-fn version_change(
-    space: &Result<FwSpace, SpaceFault>,
-    developer: bool,
-    disable_dev: bool,
     selection: Selection,
-    version: u32,
-) -> Option<FwSpace>
-    ensures change { result ≡ version_change space.now developer disable_dev selection version }
-    ensures version { IfSome result (RaisesVersion space.now) }
+    ok: &SlotOk,
+    outcome: Outcome,
+    table: bool,
+    kernel: Option<KernelSpace>,
+    last: Option<Nv>,
+) -> Plan
+    requires { selection ≡ selection_of found.now.state.nv }
+    ensures plan { result ≡ spec.good_plan_of found.now developer ok.now outcome table kernel last }
+    ensures version { IfSome result.firmware (RaisesVersion found.now.firmware) }
 {
-    let Ok(old) = space else {
-        return None;
+    let disable_dev = found.state.nv.get(NvField::DisableDev) != 0;
+    Plan {
+        outcome,
+        firmware: version_change(
+            &found.firmware,
+            developer,
+            disable_dev,
+            selection,
+            ok.version,
+        ),
+        nv: record_change(&found.state, &booted(&found.state.nv)),
+        table,
+        kernel,
+        last,
+    }
+}
+
+// What is handed over: the firmware of the slot, and this kernel.
+fn hand_of(
+    found: &Found,
+    developer: bool,
+    selection: Selection,
+    ok: &SlotOk,
+    drive: Drive,
+    kernel: &Kernel,
+    stored_kernel: Option<u32>,
+) -> Hand
+    requires { selection ≡ selection_of found.now.state.nv }
+    ensures { result ≡ spec.hand_of found.now developer ok.now drive kernel.now stored_kernel }
+{
+    Hand {
+        mode: boot_mode_of(developer),
+        drive,
+        slot: Some(selection.slot),
+        fw_version: ok.version,
+        fw_len: ok.body_len,
+        partition: kernel.partition,
+        kernel_version: kernel.version,
+        kernel_len: kernel.body_len,
+        load_address: kernel.load_address,
+        stored_fw: firmware_stored_after(&found.firmware, selection, ok.version),
+        stored_kernel,
+    }
+}
+
+/// The plan of a boot with a good slot, by what is seen on its drive.
+pub fn drive_plan(
+    found: &Found,
+    developer: bool,
+    selection: Selection,
+    ok: &SlotOk,
+    drive: Drive,
+    seen: &Seen,
+) -> Plan
+    requires { selection ≡ selection_of found.now.state.nv }
+    ensures plan { result ≡ spec.drive_plan_of found.now developer ok.now drive seen.now }
+    ensures version { IfSome result.firmware (RaisesVersion found.now.firmware) }
+    ensures kernel { IfSome result.kernel (RaisesKernel found.now.kernel) }
+{
+    match drive {
+        Drive::Stick => stick_plan(found, developer, selection, ok, seen),
+        Drive::Disk => match seen {
+            Seen::NoTable => failed_plan(found, developer, selection, ok, REASON_NO_TABLE, false),
+            Seen::Table { walked, changed } => disk_plan(
+                found,
+                developer,
+                selection,
+                ok,
+                &walked.chosen,
+                walked.lowest,
+                *changed,
+            ),
+        },
+    }
+}
+
+// Nothing is written to a stick.
+fn stick_plan(
+    found: &Found,
+    developer: bool,
+    selection: Selection,
+    ok: &SlotOk,
+    seen: &Seen,
+) -> Plan
+    requires { selection ≡ selection_of found.now.state.nv }
+    ensures plan { result ≡ spec.stick_plan_of found.now developer ok.now (spec.missing_subcode seen.now) (seen_spec.kernel_of seen.now) }
+    ensures version { IfSome result.firmware (RaisesVersion found.now.firmware) }
+    ensures kernel { IfSome result.kernel (RaisesKernel found.now.kernel) }
+{
+    let outcome = match kernel_of(seen) {
+        Some(kernel) => Outcome::HandOver(hand_of(
+            found,
+            developer,
+            selection,
+            ok,
+            Drive::Stick,
+            &kernel,
+            kernel_stored(&found.kernel),
+        )),
+        None => Outcome::Screen {
+            reason: REASON_NO_EXTERNAL,
+            subcode: missing_subcode(seen),
+        },
     };
-    let mut new = with_flags(old, developer, disable_dev);
-    new.set_versions(new_version(selection, old.versions(), version));
-    space_change(old, new)
+    good_plan(found, developer, selection, ok, outcome, false, None, None)
 }
 
-// The space with the flags after a boot.
-fn with_flags(old: &FwSpace, developer: bool, disable_dev: bool) -> FwSpace
-    ensures bytes { result ≡ booted_firmware old.now developer disable_dev }
-    ensures stored { stored_firmware_version result ≡ stored_firmware_version old.now }
+// The disk cannot be booted: after the record of the attempt comes that of its failure.
+fn failed_plan(
+    found: &Found,
+    developer: bool,
+    selection: Selection,
+    ok: &SlotOk,
+    reason: u8,
+    table: bool,
+) -> Plan
+    requires selected { selection ≡ selection_of found.now.state.nv }
+    requires some { reason ≡ 0 → ⊥ }
+    ensures plan { result ≡ spec.failed_plan_of found.now developer ok.now reason table }
+    ensures version { IfSome result.firmware (RaisesVersion found.now.firmware) }
+    ensures kernel { IfSome result.kernel (RaisesKernel found.now.kernel) }
 {
-    let mut new = *old;
-    new.set_flags(boot_flags(old.flags(), developer, disable_dev));
-    new
+    let first = booted(&found.state.nv);
+    let mut second = first;
+    let requested = fail(&mut second, Some(selection), reason, 0);
+    let outcome = Outcome::Reboot {
+        reason,
+        subcode: 0,
+        requested,
+    };
+    let last = second_change(&first, &second);
+    good_plan(found, developer, selection, ok, outcome, table, None, last)
 }
 
-// The stored version after a good slot of this version.
-fn new_version(selection: Selection, stored: u32, version: u32) -> u32
-    ensures is { result ≡ new_firmware_version selection stored version }
-    ensures no_lower { stored ≤ result }
+// By the kernel of the disk that was chosen.
+fn disk_plan(
+    found: &Found,
+    developer: bool,
+    selection: Selection,
+    ok: &SlotOk,
+    chosen: &Option<Kernel>,
+    lowest: u32,
+    changed: bool,
+) -> Plan
+    requires { selection ≡ selection_of found.now.state.nv }
+    ensures plan { result ≡ spec.disk_plan_of found.now developer ok.now chosen.now lowest changed }
+    ensures version { IfSome result.firmware (RaisesVersion found.now.firmware) }
+    ensures kernel { IfSome result.kernel (RaisesKernel found.now.kernel) }
 {
-    if stored < version && has_succeeded(selection) {
-        version
-    } else {
-        stored
+    let Some(kernel) = chosen else {
+        return failed_plan(found, developer, selection, ok, REASON_NO_KERNEL, changed);
+    };
+    let on_trial = is_trying(&booted(&found.state.nv));
+    let stored = kernel_stored_after(&found.kernel, on_trial, lowest);
+    let hand = hand_of(found, developer, selection, ok, Drive::Disk, kernel, stored);
+    let space = kernel_change(&found.kernel, on_trial, lowest);
+    good_plan(
+        found,
+        developer,
+        selection,
+        ok,
+        Outcome::HandOver(hand),
+        changed,
+        space,
+        None,
+    )
+}
+
+// ---- a recovery by hand
+
+/// Whether developer mode is asked for, and is off.
+pub fn enables_dev(sw: Switches, space: &Result<FwSpace, SpaceFault>) -> bool
+    ensures { result ≡ spec.enables_dev sw space.now }
+{
+    match space {
+        Ok(space) => sw.enable_dev && space.flags() & DEVELOPER_MODE == 0,
+        Err(_) => false,
     }
 }
 
-// Whether the boot before tried the same slot and came to its end.
-fn has_succeeded(selection: Selection) -> bool
-    ensures { result ≡ has_succeeded selection }
+/// The plan of a recovery in which developer mode is switched on.
+pub fn enabling_plan(found: &Found) -> Plan
+    ensures plan { result ≡ spec.enabling_plan_of found.now }
+    ensures version { IfSome result.firmware (RaisesVersion found.now.firmware) }
 {
-    selection.last_slot.number() == selection.slot.number() && selection.last_result == SUCCESS
-}
-
-// The new space, where it differs from the old one.
-fn space_change(old: &FwSpace, new: FwSpace) -> Option<FwSpace>
-    ensures change { result ≡ space_change old.now new }
-    ensures is { IfSome result (λ space. space ≡ new) }
-{
-    if new.to_bytes() == old.to_bytes() {
-        None
-    } else {
-        Some(new)
+    Plan {
+        outcome: Outcome::DevEnabled,
+        firmware: enabling_change(&found.firmware),
+        nv: record_change(&found.state, &enabled(&found.state.nv)),
+        table: false,
+        kernel: None,
+        last: None,
     }
 }
 
-// The record, where it does not stand already.
-fn record_change(state: &NvState, nv: &Nv) -> Option<Nv>
-    ensures { result ≡ record_change state.now nv.now }
+/// The plan of another recovery, by what is seen on the stick.
+pub fn recovery_plan(found: &Found, seen: &Seen) -> Plan
+    ensures { result ≡ spec.recovery_plan_of found.now seen.now }
 {
-    if state.holds(nv) { None } else { Some(*nv) }
+    let outcome = match kernel_of(seen) {
+        Some(kernel) => Outcome::HandOver(recovery_hand(found, &kernel)),
+        None => Outcome::Screen {
+            reason: REASON_MANUAL,
+            subcode: missing_subcode(seen),
+        },
+    };
+    let next = screened(&found.state.nv);
+    record_plan(outcome, record_change(&found.state, &next))
+}
+
+// What is handed over in a recovery: a kernel of the stick, and no firmware.
+fn recovery_hand(found: &Found, kernel: &Kernel) -> Hand
+    ensures { result ≡ spec.recovery_hand_of found.now kernel.now }
+{
+    Hand {
+        mode: BootMode::Recovery,
+        drive: Drive::Stick,
+        slot: None,
+        fw_version: 0,
+        fw_len: 0,
+        partition: kernel.partition,
+        kernel_version: kernel.version,
+        kernel_len: kernel.body_len,
+        load_address: kernel.load_address,
+        stored_fw: firmware_stored(&found.firmware),
+        stored_kernel: kernel_stored(&found.kernel),
+    }
+}
+
+// ---- what is seen
+
+fn kernel_of(seen: &Seen) -> Option<Kernel>
+    ensures { result ≡ seen_spec.kernel_of seen.now }
+{
+    match seen {
+        Seen::NoTable => None,
+        Seen::Table { walked, .. } => walked.chosen,
+    }
+}
+
+// Why a stick is not booted.
+fn missing_subcode(seen: &Seen) -> u8
+    ensures { result ≡ spec.missing_subcode seen.now }
+{
+    match seen {
+        Seen::NoTable => NO_TABLE,
+        Seen::Table { .. } => NO_KERNEL,
+    }
 }

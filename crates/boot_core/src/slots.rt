@@ -2,7 +2,7 @@
 ghost use Rattle.std.specs.Prelude.{◌≡◌};
 ghost use Rattle.board_core.specs.World.{world};
 ghost use Rattle.rom_core.specs.MapFits.{FitsFlash};
-ghost use Rattle.boot_core.specs.Slots.{vblock_of, main_of, root_of, stored_of, checks_versions};
+ghost use Rattle.boot_core.specs.Slots.{vblock_of, main_of, no_key, root_of, stored_of, checks_versions};
 ghost use Rattle.boot_core.specs.Steps.{ChecksSlot};
 
 use crate::found::Found;
@@ -57,12 +57,19 @@ fn root_of(gbb: &Result<Gbb, GbbFault>) -> PackedKey
 {
     match gbb {
         Ok(gbb) => gbb.root,
-        Err(_) => PackedKey {
-            algorithm: 0,
-            version: 0,
-            size: 0,
-            bytes: [0; LARGEST_KEY],
-        },
+        Err(_) => no_key(),
+    }
+}
+
+/// A key of no bytes, which signs nothing.
+pub fn no_key() -> PackedKey
+    ensures { result ≡ no_key }
+{
+    PackedKey {
+        algorithm: 0,
+        version: 0,
+        size: 0,
+        bytes: [0; LARGEST_KEY],
     }
 }
 

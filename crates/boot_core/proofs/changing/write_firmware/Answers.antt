@@ -5,10 +5,10 @@ use Rattle.board_core.specs.declared.device.Space.TheVariants as space
 use Rattle.board_core.specs.Tpm.{WritesSpace}
 use Rattle.board_core.specs.World.{World, world}
 use Rattle.nvstore_core.specs.declared.state.NvState.{NvState}
-use Rattle.boot_core.specs.Changes.{Firmware}
-use Rattle.boot_core.specs.Plan.{listed}
+use Rattle.boot_core.specs.Changes.{Firmware, listed}
 use Rattle.boot_core.specs.Carries.{Targets, CarriesOut}
-use Rattle.boot_core.proofs.Making.{none_carried, firmware_made, firmware_failed, tpm_fault}
+use Rattle.boot_core.proofs.Making.{none_carried}
+use Rattle.boot_core.proofs.MakingSpaces.{space_made, space_failed, tpm_fault}
 use Rattle.boot_core.proofs.changing.write_firmware.Goals as goal
 
 pub returns-in_default-clause-carried : goal.returns-in_default-clause-carried
@@ -22,8 +22,8 @@ returns-in_default-write-clause-carried g c = λ (to : Targets) (state : NvState
     let new : World = world g.F.Flash.state g.T.Tpm.state g.H.Hook.state (record c.args.p.now { tpm = c.write.new.self }) in
     let meets : WritesSpace space.Firmware c.in-Some.firmware w.tpm new.tpm (Err c.in_default-write.field-0) =
     subst (λ (bytes : List ℕ). WritesSpace space.Firmware bytes w.tpm new.tpm (Err c.in_default-write.field-0)) c.to_bytes.ensures.same c.in_default-write.ensures.meets in
-    subst (λ (change : Option (List ℕ)). CarriesOut {T = ℕ} 0 to state (listed Firmware change) w new (Err tpm_fault)) (sym c.in-Some.is)
-    (firmware_failed {T = ℕ} to state c.in-Some.firmware w new.tpm c.in_default-write.field-0 c.requires.settled c.args.p.now.tpm.to_go meets)
+    subst (λ (change : Option (List ℕ)). CarriesOut {T = ℕ} 0 to state (listed Firmware change) w new (Err (tpm_fault 0))) (sym c.in-Some.is)
+    (space_failed {T = ℕ} 0 to state space.Firmware c.in-Some.firmware w new.tpm c.in_default-write.field-0 c.requires.settled c.args.p.now.tpm.to_go meets)
 
 pub returns-clause-carried : goal.returns-clause-carried
 returns-clause-carried g c = λ (to : Targets) (state : NvState).
@@ -32,4 +32,4 @@ returns-clause-carried g c = λ (to : Targets) (state : NvState).
     let meets : WritesSpace {E = Failed} space.Firmware c.in-Some.firmware w.tpm new.tpm (Ok tt) =
     subst (λ (bytes : List ℕ). WritesSpace {E = Failed} space.Firmware bytes w.tpm new.tpm (Ok tt)) c.to_bytes.ensures.same c.in-Ok.ensures.meets in
     subst (λ (change : Option (List ℕ)). CarriesOut {T = ℕ} 0 to state (listed Firmware change) w new (Ok 1)) (sym c.in-Some.is)
-    (firmware_made {T = ℕ} to state c.in-Some.firmware w new.tpm 1 c.requires.settled meets)
+    (space_made {T = ℕ} 0 to state space.Firmware c.in-Some.firmware w new.tpm 1 c.requires.settled meets)

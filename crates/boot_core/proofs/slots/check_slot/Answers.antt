@@ -1,5 +1,4 @@
 -- The slot was verified.
-use Rattle.std.proofs.Common.{Result, Ok, subst}
 use Rattle.board_core.specs.World.{World, world}
 use Rattle.boot_core.proofs.Verified.{asked_is, checks_slot}
 use Rattle.boot_core.proofs.slots.check_slot.Goals as goal

@@ -1,0 +1,246 @@
+// What a boot makes of the nvdata record and of both spaces of the TPM. A change that would change nothing is none. Constants are
+// flags of the firmware space, and results of a boot in the record.
+ghost use Rattle.std.specs.Prelude.{◌≡◌, ◌≤◌, IfSome, None};
+ghost use Rattle.record_core.specs.Space.{stored_firmware_version, stored_kernel_version};
+ghost use Rattle.boot_core.specs.Spaces as spec;
+ghost use Rattle.boot_core.specs.Spaces.{RaisesVersion, RaisesKernel};
+
+use fwsel_core::{Selection, boot_flags, select};
+use nvstore_core::NvState;
+use record_core::{FwSpace, KernelSpace, Nv, NvField, SpaceFault};
+
+const SUCCESS: u8 = 2;
+
+const TRYING: u8 = 1;
+
+const DEVELOPER_MODE: u8 = 0x02;
+
+// ---- the record
+
+/// The record that a boot leaves which goes on with a slot: the selected one, and developer mode is no longer to be switched off.
+pub fn booted(nv: &Nv) -> Nv
+    ensures { result ≡ spec.booted_record nv.now }
+{
+    let mut next = *nv;
+    select(&mut next);
+    next.set(NvField::DisableDev, 0);
+    next
+}
+
+/// The record in which a request for a recovery is taken back.
+pub fn screened(nv: &Nv) -> Nv
+    ensures { result ≡ spec.screened_record nv.now }
+{
+    let mut next = *nv;
+    next.set(NvField::RecoveryRequest, 0);
+    next.set(NvField::RecoverySubcode, 0);
+    next
+}
+
+/// The same, and developer mode is not to be switched off.
+pub fn enabled(nv: &Nv) -> Nv
+    ensures { result ≡ spec.enabled_record nv.now }
+{
+    let mut next = screened(nv);
+    next.set(NvField::DisableDev, 0);
+    next
+}
+
+/// Whether the record says that the slot is on trial.
+pub fn is_trying(nv: &Nv) -> bool
+    ensures { result ≡ spec.is_trying nv.now }
+{
+    nv.get(NvField::Result) == TRYING
+}
+
+/// The record, where it does not stand already.
+pub fn record_change(state: &NvState, nv: &Nv) -> Option<Nv>
+    ensures { result ≡ spec.record_change state.now nv.now }
+{
+    if state.holds(nv) { None } else { Some(*nv) }
+}
+
+/// The second record, where it is another one than the first, which stands by then.
+pub fn second_change(first: &Nv, second: &Nv) -> Option<Nv>
+    ensures { result ≡ spec.second_change first.now second.now }
+{
+    if second.bytes() == first.bytes() {
+        None
+    } else {
+        Some(*second)
+    }
+}
+
+// ---- the firmware space
+
+/// The firmware space with the flags after a boot, where it differs.
+pub fn flags_change(
+    space: &Result<FwSpace, SpaceFault>,
+    developer: bool,
+    disable_dev: bool,
+) -> Option<FwSpace>
+    ensures change { result ≡ spec.flags_change space.now developer disable_dev }
+    ensures version { IfSome result (RaisesVersion space.now) }
+{
+    let Ok(old) = space else {
+        return None;
+    };
+    space_change(old, with_flags(old, developer, disable_dev))
+}
+
+/// The firmware space with flags and version after a good slot, where it differs.
+pub fn version_change(
+    space: &Result<FwSpace, SpaceFault>,
+    developer: bool,
+    disable_dev: bool,
+    selection: Selection,
+    version: u32,
+) -> Option<FwSpace>
+    ensures change { result ≡ spec.version_change space.now developer disable_dev selection version }
+    ensures version { IfSome result (RaisesVersion space.now) }
+{
+    let Ok(old) = space else {
+        return None;
+    };
+    let mut new = with_flags(old, developer, disable_dev);
+    new.set_versions(new_version(selection, old.versions(), version));
+    space_change(old, new)
+}
+
+/// The firmware space with developer mode on, where it was off.
+pub fn enabling_change(space: &Result<FwSpace, SpaceFault>) -> Option<FwSpace>
+    ensures change { result ≡ spec.enabling_change space.now }
+    ensures version { IfSome result (RaisesVersion space.now) }
+{
+    let Ok(old) = space else {
+        return None;
+    };
+    let mut new = *old;
+    new.set_flags(old.flags() | DEVELOPER_MODE);
+    space_change(old, new)
+}
+
+/// The version of the firmware that is stored in a space, or none where it has a fault.
+pub fn firmware_stored(space: &Result<FwSpace, SpaceFault>) -> Option<u32>
+    ensures { result ≡ spec.firmware_stored space.now }
+{
+    match space {
+        Ok(space) => Some(space.versions()),
+        Err(_) => None,
+    }
+}
+
+/// The one that is stored after a good slot of this version.
+pub fn firmware_stored_after(
+    space: &Result<FwSpace, SpaceFault>,
+    selection: Selection,
+    version: u32,
+) -> Option<u32>
+    ensures { result ≡ spec.firmware_stored_after space.now selection version }
+{
+    match space {
+        Ok(space) => Some(new_version(selection, space.versions(), version)),
+        Err(_) => None,
+    }
+}
+
+// The space with the flags after a boot.
+fn with_flags(old: &FwSpace, developer: bool, disable_dev: bool) -> FwSpace
+    ensures bytes { result ≡ spec.booted_firmware old.now developer disable_dev }
+    ensures stored { stored_firmware_version result ≡ stored_firmware_version old.now }
+{
+    let mut new = *old;
+    new.set_flags(boot_flags(old.flags(), developer, disable_dev));
+    new
+}
+
+// The stored version after a good slot of this version.
+fn new_version(selection: Selection, stored: u32, version: u32) -> u32
+    ensures is { result ≡ spec.new_firmware_version selection stored version }
+    ensures no_lower { stored ≤ result }
+{
+    if stored < version && has_succeeded(selection) {
+        version
+    } else {
+        stored
+    }
+}
+
+// Whether the boot before tried the same slot and came to its end.
+fn has_succeeded(selection: Selection) -> bool
+    ensures { result ≡ spec.has_succeeded selection }
+{
+    selection.last_slot.number() == selection.slot.number() && selection.last_result == SUCCESS
+}
+
+// The new space, where it differs from the old one.
+fn space_change(old: &FwSpace, new: FwSpace) -> Option<FwSpace>
+    ensures change { result ≡ spec.space_change old.now new }
+    ensures is { IfSome result (λ space. space ≡ new) }
+{
+    if new.to_bytes() == old.to_bytes() {
+        None
+    } else {
+        Some(new)
+    }
+}
+
+// ---- the kernel space
+
+/// The kernel space with the version after a kernel was chosen, of which the walk found this lowest version to store.
+pub fn kernel_change(
+    space: &Result<KernelSpace, SpaceFault>,
+    trying: bool,
+    lowest: u32,
+) -> Option<KernelSpace>
+    ensures change { result ≡ spec.kernel_change space.now trying lowest }
+    ensures version { IfSome result (RaisesKernel space.now) }
+{
+    let Ok(old) = space else {
+        return None;
+    };
+    let mut new = *old;
+    new.set_versions(new_kernel_version(trying, old.versions(), lowest));
+    if new.to_bytes() == old.to_bytes() {
+        None
+    } else {
+        Some(new)
+    }
+}
+
+/// The version of the kernel that is stored in a space, or none where it has a fault.
+pub fn kernel_stored(space: &Result<KernelSpace, SpaceFault>) -> Option<u32>
+    ensures { result ≡ spec.kernel_stored space.now }
+{
+    match space {
+        Ok(space) => Some(space.versions()),
+        Err(_) => None,
+    }
+}
+
+/// The one that is stored after a kernel was chosen.
+pub fn kernel_stored_after(
+    space: &Result<KernelSpace, SpaceFault>,
+    trying: bool,
+    lowest: u32,
+) -> Option<u32>
+    ensures { result ≡ spec.kernel_stored_after space.now trying lowest }
+{
+    match space {
+        Ok(space) => Some(new_kernel_version(trying, space.versions(), lowest)),
+        Err(_) => None,
+    }
+}
+
+// The stored version after a kernel was chosen: the lowest one to store, where it is over the stored one and the slot is not on
+// trial.
+fn new_kernel_version(trying: bool, stored: u32, lowest: u32) -> u32
+    ensures is { result ≡ spec.new_kernel_version trying stored lowest }
+    ensures no_lower { stored ≤ result }
+{
+    if stored < lowest && !trying {
+        lowest
+    } else {
+        stored
+    }
+}

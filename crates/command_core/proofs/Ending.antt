@@ -1,5 +1,5 @@
 -- What a user reads from the exit status of a boot.
-use Rattle.std.proofs.Common.{◌≡◌, ◌⊎◌, ℕ, List, Bool, true, false, Ok, Err, refl, sym, ap, subst, ◌∙◌, arith, inl, inr, ◌≤◌}
+use Rattle.std.proofs.Common.{◌≡◌, ◌⊎◌, ℕ, Bool, true, false, Ok, Err, refl, sym, ap, subst, ◌∙◌, arith, inl, inr, ◌≤◌}
 use Rattle.std.specs.Prelude.{IsTrue}
 use Rattle.std.proofs.lemmas.Bool.{eq-eqb, ne_eqb}
 use Rattle.board_core.specs.declared.counters.Counters.{Counters}
@@ -8,7 +8,8 @@ use Rattle.board_core.specs.declared.device.Device.TheVariants as device
 use Rattle.board_core.specs.declared.device.Fault.{Fault}
 use Rattle.board_core.specs.Counters.{raised, CountsFaults, Observed, MadeStep}
 use Rattle.board_core.specs.Flash.{FlashMedium}
-use Rattle.board_core.specs.Tpm.{TpmState, unlocked}
+use Rattle.board_core.specs.Tpm.{TpmState, Locks, unlocked}
+use Rattle.board_core.specs.Disk.{DiskState}
 use Rattle.board_core.specs.Fault.{same_device}
 use Rattle.board_core.specs.Hook.{HookState}
 use Rattle.board_core.specs.Streams.{StreamState}
@@ -16,15 +17,16 @@ use Rattle.board_core.specs.World.{World}
 use Rattle.boot_core.specs.declared.outcome.Outcome.{Outcome}
 use Rattle.boot_core.specs.declared.outcome.Outcome.TheVariants as outcome
 use Rattle.boot_core.specs.declared.switches.Switches.{Switches}
-use Rattle.boot_core.specs.Steps.{both_locked, locks_at}
-use Rattle.boot_core.specs.Boots.{BootPlan, IsTold, HandsOver}
-use Rattle.boot_core.proofs.Whole.{plan_same, hands_same, never_same}
+use Rattle.boot_core.specs.Steps.{IsTold, both_locked, locks_at}
+use Rattle.boot_core.specs.Boots.{BootPlan, boot_plan}
+use Rattle.boot_core.proofs.Versions.{never_same}
+use Rattle.boot_core.proofs.Whole.{SameBoards, plan_same, hands_same}
 use Rattle.command_core.specs.declared.answer.Answer.{Answer}
 use Rattle.command_core.specs.declared.answer.Answer.TheVariants as answers
 use Rattle.command_core.specs.declared.answer.Status.{Status}
 use Rattle.command_core.specs.Answers.{device_code, outcome_code, code_of}
 use Rattle.command_core.specs.Prints.{Prints}
-use Rattle.command_core.specs.Booting.{IsUnlocated, BootsLocated, BootWorks, BootRuns, FailedOnce, NeverFailed, IsNoFault, IsLocated, EndsVerified, BootEnds}
+use Rattle.command_core.specs.Booting.{IsUnlocated, BootsLocated, BootWorks, BootRuns, FailedOnce, NeverFailed, IsNoFault, EndsHanded, BootEnds}
 
 -- ---- what was counted
 
@@ -45,55 +47,67 @@ code_is answer put put' status prints n other is = sym (prints.code (λ nine. ot
 -- ---- a boot that came to an outcome
 
 no_fault_code : (o : Outcome) → (outcome_code o ≡ 5 → ⊥) × (outcome_code o ≡ 6 → ⊥)
-no_fault_code (outcome.Verified d s v l) = (λ is. absurd (omega arith), λ is. absurd (omega arith))
+no_fault_code (outcome.HandOver h) = (λ is. absurd (omega arith), λ is. absurd (omega arith))
 no_fault_code (outcome.Reboot r s q) = (λ is. absurd (omega arith), λ is. absurd (omega arith))
 no_fault_code (outcome.Screen r s) = (λ is. absurd (omega arith), λ is. absurd (omega arith))
-no_fault_code outcome.ManualRecovery = (λ is. absurd (omega arith), λ is. absurd (omega arith))
+no_fault_code outcome.DevEnabled = (λ is. absurd (omega arith), λ is. absurd (omega arith))
 no_fault_code (outcome.BadFlash f) = (λ is. absurd (omega arith), λ is. absurd (omega arith))
 
 no_other_code : (o : Outcome) → (outcome_code o ≡ 7 → ⊥) × (outcome_code o ≡ 8 → ⊥) × (outcome_code o ≡ 1 → ⊥)
-no_other_code (outcome.Verified d s v l) = (λ is. absurd (omega arith), λ is. absurd (omega arith), λ is. absurd (omega arith))
+no_other_code (outcome.HandOver h) = (λ is. absurd (omega arith), λ is. absurd (omega arith), λ is. absurd (omega arith))
 no_other_code (outcome.Reboot r s q) = (λ is. absurd (omega arith), λ is. absurd (omega arith), λ is. absurd (omega arith))
 no_other_code (outcome.Screen r s) = (λ is. absurd (omega arith), λ is. absurd (omega arith), λ is. absurd (omega arith))
-no_other_code outcome.ManualRecovery = (λ is. absurd (omega arith), λ is. absurd (omega arith), λ is. absurd (omega arith))
+no_other_code outcome.DevEnabled = (λ is. absurd (omega arith), λ is. absurd (omega arith), λ is. absurd (omega arith))
 no_other_code (outcome.BadFlash f) = (λ is. absurd (omega arith), λ is. absurd (omega arith), λ is. absurd (omega arith))
 
 no_memory_code : (o : Outcome) → outcome_code o ≡ 15 → ⊥
-no_memory_code (outcome.Verified d s v l) is = absurd (omega arith)
+no_memory_code (outcome.HandOver h) is = absurd (omega arith)
 no_memory_code (outcome.Reboot r s q) is = absurd (omega arith)
 no_memory_code (outcome.Screen r s) is = absurd (omega arith)
-no_memory_code outcome.ManualRecovery is = absurd (omega arith)
+no_memory_code outcome.DevEnabled is = absurd (omega arith)
 no_memory_code (outcome.BadFlash f) is = absurd (omega arith)
 
-locked_at : (o : Outcome) → outcome_code o ≡ 0 → locks_at o ≡ both_locked
-locked_at (outcome.Verified d s v l) is = refl
-locked_at (outcome.Reboot r s q) is = absurd (omega arith)
-locked_at (outcome.Screen r s) is = absurd (omega arith)
-locked_at outcome.ManualRecovery is = absurd (omega arith)
-locked_at (outcome.BadFlash f) is = absurd (omega arith)
+locked_or_not : (o : Outcome) → (locks_at o ≡ both_locked) ⊎ (locks_at o ≡ unlocked)
+locked_or_not (outcome.HandOver h) = inl refl
+locked_or_not outcome.DevEnabled = inr refl
+locked_or_not (outcome.Reboot r s q) = inr refl
+locked_or_not (outcome.Screen r s) = inr refl
+locked_or_not (outcome.BadFlash f) = inr refl
 
 unlocked_at : (o : Outcome) → (outcome_code o ≡ 0 → ⊥) → locks_at o ≡ unlocked
-unlocked_at (outcome.Verified d s v l) other = absurd (other refl)
+unlocked_at (outcome.HandOver h) other = absurd (other refl)
 unlocked_at (outcome.Reboot r s q) other = refl
 unlocked_at (outcome.Screen r s) other = refl
-unlocked_at outcome.ManualRecovery other = refl
+unlocked_at outcome.DevEnabled other = refl
 unlocked_at (outcome.BadFlash f) other = refl
+
+either_locks : {a b c d : Locks} → (b ≡ c) ⊎ (b ≡ d) → a ≡ b → (a ≡ c) ⊎ (a ≡ d)
+either_locks (inl is) same = inl (same ∙ is)
+either_locks (inr is) same = inr (same ∙ is)
 
 told_on : (sw : Switches) (old new : World) (o : Outcome) (b : BootsLocated sw old new (Ok o)) → IsTold old → IsTold (record old { flash = b.flash; map_at = b.at })
 told_on sw old new o b told = record { flash = subst (λ (m : FlashMedium). IsTrue m.told) (sym b.locates.medium) told.flash; tpm = told.tpm; disk = told.disk; stick = told.stick; hook = told.hook }
 
--- at status 0 firmware is handed over
-hands_verified : (old : World) (at : ℕ) (handed : List ℕ) (o : Outcome) → IsLocated old.flash.medium at → outcome_code o ≡ 0 → HandsOver (record old { map_at = at }) handed o → EndsVerified old
-hands_verified old at handed (outcome.Verified d s v l) located zero hands = record { at = at; located = located; slot = s; version = v; len = l; handed = handed; hands = hands }
-hands_verified old at handed (outcome.Reboot r s q) located zero hands = absurd (omega arith)
-hands_verified old at handed (outcome.Screen r s) located zero hands = absurd (omega arith)
-hands_verified old at handed outcome.ManualRecovery located zero hands = absurd (omega arith)
-hands_verified old at handed (outcome.BadFlash f) located zero hands = absurd (omega arith)
+-- the flash was read when the map was looked for
+one_board : (sw : Switches) (old new : World) (o : Outcome) (b : BootsLocated sw old new (Ok o)) → SameBoards (record old { map_at = b.at }) (record old { flash = b.flash; map_at = b.at })
+one_board sw old new o b = record { medium = b.locates.medium; disk = refl; stick = refl; hook = refl }
 
-verified_at : (sw : Switches) (old new : World) (o : Outcome) (b : BootsLocated sw old new (Ok o)) → IsTold old → outcome_code o ≡ 0 → EndsVerified old
-verified_at sw old new o b told zero =
-    hands_verified old b.at b.handed o (b.locates.place told.flash) zero
-    (hands_same (record old { map_at = b.at }) (record old { flash = b.flash; map_at = b.at }) b.handed o refl b.locates.medium refl refl (b.boots.hands (told_on sw old new o b told)))
+-- the outcome is that of the plan
+planned_at : (sw : Switches) (old new : World) (o : Outcome) (b : BootsLocated sw old new (Ok o)) → IsTold old → o ≡ (boot_plan sw (record old { map_at = b.at })).outcome
+planned_at sw old new o b told =
+    b.boots.outcome
+    ∙ ap (λ (p : BootPlan). p.outcome) (b.boots.planned (told_on sw old new o b told) ∙ plan_same sw (record old { map_at = b.at }) (record old { flash = b.flash; map_at = b.at }) refl refl (one_board sw old new o b))
+
+handed_at : (sw : Switches) (old new : World) (o : Outcome) (b : BootsLocated sw old new (Ok o)) → IsTold old → EndsHanded sw old new
+handed_at sw old new o b told = record {
+  at = b.at;
+  located = b.locates.place told.flash;
+  outcome = o;
+  planned = planned_at sw old new o b told;
+  handed = b.handed;
+  hands = hands_same sw (record old { map_at = b.at }) (record old { flash = b.flash; map_at = b.at }) b.handed o refl refl (one_board sw old new o b) (b.boots.hands (told_on sw old new o b told));
+  locks = b.boots.locks;
+}
 
 ends_booted : (sw : Switches) (old new : World) (put put' : StreamState) (status : Status) (o : Outcome) → BootsLocated sw old new (Ok o) → Prints (answers.Booted o) put put' status → BootEnds sw old new put put' status
 ends_booted sw old new put put' status o b prints =
@@ -102,10 +116,9 @@ ends_booted sw old new put put' status o b prints =
       planned = λ told none. record {
         at = b.at;
         located = b.locates.place told.flash;
-        code = prints.code none.sink ∙ ap outcome_code (b.boots.outcome ∙ ap (λ (p : BootPlan). p.outcome) (b.boots.planned (told_on sw old new o b told)
-            ∙ plan_same sw (record old { map_at = b.at }) (record old { flash = b.flash; map_at = b.at }) refl b.locates.medium refl refl));
+        code = prints.code none.sink ∙ ap outcome_code (planned_at sw old new o b told);
       };
-      verified = λ told zero. verified_at sw old new o b told (of_code 0 (λ e. absurd (omega arith)) zero);
+      handed = λ told zero. handed_at sw old new o b told;
       faults = record {
         flash_fault = λ is. absurd ((no_fault_code o).0 (of_code 5 (λ e. absurd (omega arith)) is));
         tpm_fault = λ is. absurd ((no_fault_code o).1 (of_code 6 (λ e. absurd (omega arith)) is));
@@ -114,20 +127,18 @@ ends_booted sw old new put put' status o b prints =
         sink_fault = λ is. prints.faults.cause (eq-eqb status.code 9 is);
         no_flash_fault = λ a b'. never_failed _ _ _ _ _ b.locates.counters b.boots.counts.flash;
         no_tpm_fault = λ a b'. b.boots.counts.tpm.made.no_fault refl;
+        no_drive_fault = λ a b'. (b.boots.counts.disk.made.no_fault refl, b.boots.counts.stick.made.no_fault refl);
         no_hook_fault = λ a b'. b.boots.counts.hook.no_fault refl;
         no_sink_fault = λ other. prints.faults.no_fault (ne_eqb status.code 9 other);
       };
       locks = record {
-        locked = λ is. b.boots.locks ∙ locked_at o (of_code 0 (λ e. absurd (omega arith)) is);
+        at_zero = λ is. either_locks (locked_or_not o) b.boots.locks;
         left_unlocked = λ is. b.boots.locks ∙ unlocked_at o (λ zero.
             elim is [
               | inl two ↦ let code = of_code 2 (λ e. absurd (omega arith)) two in absurd (omega arith)
               | inr more ↦ elim more [
                 | inl three ↦ let code = of_code 3 (λ e. absurd (omega arith)) three in absurd (omega arith)
-                | inr rest ↦ elim rest [
-                  | inl eleven ↦ let code = of_code 11 (λ e. absurd (omega arith)) eleven in absurd (omega arith)
-                  | inr last ↦ let code = of_code 19 (λ e. absurd (omega arith)) last in absurd (omega arith)
-                ]
+                | inr eleven ↦ let code = of_code 11 (λ e. absurd (omega arith)) eleven in absurd (omega arith)
               ]
             ]);
       };
@@ -174,6 +185,13 @@ drive_by device.Disk a c b e n m h k is = inl (h.made.cause refl)
 drive_by device.Stick a c b e n m h k is = inr (k.made.cause refl)
 drive_by device.Hook a c b e n m h k is = absurd (omega arith)
 
+drive_never : (d : Device) (a c b e : Counters) (n m : ℕ) → MadeStep a c n true (same_device device.Disk d) → MadeStep b e m true (same_device device.Stick d) → (device_code d ≡ 7 → ⊥) → NeverFailed a c × NeverFailed b e
+drive_never device.Flash a c b e n m h k other = (h.made.no_fault refl, k.made.no_fault refl)
+drive_never device.Tpm a c b e n m h k other = (h.made.no_fault refl, k.made.no_fault refl)
+drive_never device.Disk a c b e n m h k other = absurd (other refl)
+drive_never device.Stick a c b e n m h k other = absurd (other refl)
+drive_never device.Hook a c b e n m h k other = (h.made.no_fault refl, k.made.no_fault refl)
+
 hook_by : (d : Device) (a b : ℕ) → CountsFaults a b (same_device device.Hook d) → device_code d ≡ 8 → b ≡ raised a
 hook_by device.Flash a b h is = absurd (omega arith)
 hook_by device.Tpm a b h is = absurd (omega arith)
@@ -196,7 +214,7 @@ ends_faulted sw old new put put' status fault b prints =
     let tpm = tpm_by fault.device _ _ _ b.boots.counts.tpm in
     record {
       planned = λ told none. absurd (is_fault fault.device status (prints.code none.sink) none);
-      verified = λ told zero. let code = of_code 0 (λ e. absurd (omega arith)) zero in absurd (omega (arith, range.0));
+      handed = λ told zero. let code = of_code 0 (λ e. absurd (omega arith)) zero in absurd (omega (arith, range.0));
       faults = record {
         flash_fault = λ is. flash.0 (of_code 5 (λ e. absurd (omega arith)) is);
         tpm_fault = λ is. tpm.0 (of_code 6 (λ e. absurd (omega arith)) is);
@@ -205,20 +223,18 @@ ends_faulted sw old new put put' status fault b prints =
         sink_fault = λ is. prints.faults.cause (eq-eqb status.code 9 is);
         no_flash_fault = λ other nine. flash.1 (λ is. other (prints.code nine ∙ is));
         no_tpm_fault = λ other nine. tpm.1 (λ is. other (prints.code nine ∙ is));
+        no_drive_fault = λ other nine. drive_never fault.device _ _ _ _ _ _ b.boots.counts.disk b.boots.counts.stick (λ is. other (prints.code nine ∙ is));
         no_hook_fault = λ other nine. hook_never fault.device _ _ b.boots.counts.hook (λ is. other (prints.code nine ∙ is));
         no_sink_fault = λ other. prints.faults.no_fault (ne_eqb status.code 9 other);
       };
       locks = record {
-        locked = λ is. let code = of_code 0 (λ e. absurd (omega arith)) is in absurd (omega (arith, range.0));
+        at_zero = λ is. let code = of_code 0 (λ e. absurd (omega arith)) is in absurd (omega (arith, range.0));
         left_unlocked = λ is.
             absurd (elim is [
               | inl two ↦ let code = of_code 2 (λ e. absurd (omega arith)) two in omega (arith, range.0)
               | inr more ↦ elim more [
                 | inl three ↦ let code = of_code 3 (λ e. absurd (omega arith)) three in omega (arith, range.0)
-                | inr rest ↦ elim rest [
-                  | inl eleven ↦ let code = of_code 11 (λ e. absurd (omega arith)) eleven in omega (arith, range.1)
-                  | inr last ↦ let code = of_code 19 (λ e. absurd (omega arith)) last in omega (arith, range.1)
-                ]
+                | inr eleven ↦ let code = of_code 11 (λ e. absurd (omega arith)) eleven in omega (arith, range.1)
               ]
             ]);
       };
@@ -234,7 +250,7 @@ ends_unlocated sw old new put put' status h prints =
     let of_code : (n : ℕ) → (n ≡ 9 → ⊥) → status.code ≡ n → 5 ≡ n = code_is (answers.Failed device.Flash) put put' status prints in
     record {
       planned = λ told none. absurd (none.flash (prints.code none.sink));
-      verified = λ told zero. let code = of_code 0 (λ e. absurd (omega arith)) zero in absurd (omega arith);
+      handed = λ told zero. let code = of_code 0 (λ e. absurd (omega arith)) zero in absurd (omega arith);
       faults = record {
         flash_fault = λ is. h.counters.cause refl;
         tpm_fault = λ is. let code = of_code 6 (λ e. absurd (omega arith)) is in absurd (omega arith);
@@ -243,20 +259,18 @@ ends_unlocated sw old new put put' status h prints =
         sink_fault = λ is. prints.faults.cause (eq-eqb status.code 9 is);
         no_flash_fault = λ other nine. absurd (other (prints.code nine));
         no_tpm_fault = λ other nine. ap (λ (t : TpmState). t.counters.faults) h.tpm;
+        no_drive_fault = λ other nine. (ap (λ (d : DiskState). d.counters.faults) h.disk, ap (λ (d : DiskState). d.counters.faults) h.stick);
         no_hook_fault = λ other nine. ap (λ (k : HookState). k.faults) h.hook;
         no_sink_fault = λ other. prints.faults.no_fault (ne_eqb status.code 9 other);
       };
       locks = record {
-        locked = λ is. let code = of_code 0 (λ e. absurd (omega arith)) is in absurd (omega arith);
+        at_zero = λ is. let code = of_code 0 (λ e. absurd (omega arith)) is in absurd (omega arith);
         left_unlocked = λ is.
             absurd (elim is [
               | inl two ↦ let code = of_code 2 (λ e. absurd (omega arith)) two in omega arith
               | inr more ↦ elim more [
                 | inl three ↦ let code = of_code 3 (λ e. absurd (omega arith)) three in omega arith
-                | inr rest ↦ elim rest [
-                  | inl eleven ↦ let code = of_code 11 (λ e. absurd (omega arith)) eleven in omega arith
-                  | inr last ↦ let code = of_code 19 (λ e. absurd (omega arith)) last in omega arith
-                ]
+                | inr eleven ↦ let code = of_code 11 (λ e. absurd (omega arith)) eleven in omega arith
               ]
             ]);
       };
@@ -272,7 +286,7 @@ ends_full sw old new put put' status same prints =
     let of_code : (n : ℕ) → (n ≡ 9 → ⊥) → status.code ≡ n → 15 ≡ n = code_is answers.OutOfMemory put put' status prints in
     record {
       planned = λ told none. absurd (none.memory (prints.code none.sink));
-      verified = λ told zero. let code = of_code 0 (λ e. absurd (omega arith)) zero in absurd (omega arith);
+      handed = λ told zero. let code = of_code 0 (λ e. absurd (omega arith)) zero in absurd (omega arith);
       faults = record {
         flash_fault = λ is. let code = of_code 5 (λ e. absurd (omega arith)) is in absurd (omega arith);
         tpm_fault = λ is. let code = of_code 6 (λ e. absurd (omega arith)) is in absurd (omega arith);
@@ -281,20 +295,18 @@ ends_full sw old new put put' status same prints =
         sink_fault = λ is. prints.faults.cause (eq-eqb status.code 9 is);
         no_flash_fault = λ other nine. ap (λ (w : World). w.flash.counters.faults) same;
         no_tpm_fault = λ other nine. ap (λ (w : World). w.tpm.counters.faults) same;
+        no_drive_fault = λ other nine. (ap (λ (w : World). w.disk.counters.faults) same, ap (λ (w : World). w.stick.counters.faults) same);
         no_hook_fault = λ other nine. ap (λ (w : World). w.hook.faults) same;
         no_sink_fault = λ other. prints.faults.no_fault (ne_eqb status.code 9 other);
       };
       locks = record {
-        locked = λ is. let code = of_code 0 (λ e. absurd (omega arith)) is in absurd (omega arith);
+        at_zero = λ is. let code = of_code 0 (λ e. absurd (omega arith)) is in absurd (omega arith);
         left_unlocked = λ is.
             absurd (elim is [
               | inl two ↦ let code = of_code 2 (λ e. absurd (omega arith)) two in omega arith
               | inr more ↦ elim more [
                 | inl three ↦ let code = of_code 3 (λ e. absurd (omega arith)) three in omega arith
-                | inr rest ↦ elim rest [
-                  | inl eleven ↦ let code = of_code 11 (λ e. absurd (omega arith)) eleven in omega arith
-                  | inr last ↦ let code = of_code 19 (λ e. absurd (omega arith)) last in omega arith
-                ]
+                | inr eleven ↦ let code = of_code 11 (λ e. absurd (omega arith)) eleven in omega arith
               ]
             ]);
       };

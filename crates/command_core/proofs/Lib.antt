@@ -1,2 +1,3 @@
 mod Words
 mod Ending
+pub mod SwitchWords

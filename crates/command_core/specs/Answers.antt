@@ -1,5 +1,5 @@
 -- The text and the exit status of each answer.
-use Rattle.std.specs.Prelude.{ℕ, Bool, true, false, List, [], ◌∷◌, ◌++◌, codes, decimal}
+use Rattle.std.specs.Prelude.{ℕ, Bool, true, false, List, [], ◌∷◌, ◌++◌, codes, decimal, Option, Some, None}
 use Rattle.fwsel_core.specs.declared.slot.Slot.{Slot}
 use Rattle.fwsel_core.specs.declared.slot.Slot.TheVariants.{A, B}
 use Rattle.board_core.specs.declared.device.Device.{Device}
@@ -11,6 +11,11 @@ use Rattle.cgpt_core.specs.declared.call.WordFault.TheVariants as fault
 use Rattle.rom_core.specs.declared.fault.MapFault.{MapFault}
 use Rattle.rom_core.specs.Faults.{map_fault_number}
 use Rattle.text_core.specs.Numbers.{hex_number}
+use Rattle.kernel_core.specs.declared.rules.BootMode.{BootMode}
+use Rattle.kernel_core.specs.declared.rules.BootMode.TheVariants as mode
+use Rattle.boot_core.specs.declared.drives.Drive.{Drive}
+use Rattle.boot_core.specs.declared.drives.Drive.TheVariants as drive
+use Rattle.boot_core.specs.declared.outcome.Hand.{Hand}
 use Rattle.boot_core.specs.declared.outcome.Outcome.{Outcome}
 use Rattle.boot_core.specs.declared.outcome.Outcome.TheVariants as outcome
 use Rattle.command_core.specs.declared.answer.Answer.{Answer}
@@ -22,13 +27,25 @@ use Rattle.command_core.specs.declared.answer.CgptRefusal.TheVariants as refusal
 abbrev pub line_of : List ℕ → List ℕ
 line_of words = words ++ 10 ∷ []
 
-abbrev pub mode_name : Bool → List ℕ
-mode_name false = codes "mode normal"
-mode_name true = codes "mode developer"
+abbrev pub mode_name : BootMode → List ℕ
+mode_name mode.Normal = codes "mode normal"
+mode_name mode.Developer = codes "mode developer"
+mode_name mode.Recovery = codes "mode recovery"
 
-abbrev pub slot_name : Slot → List ℕ
-slot_name A = codes "slot A"
-slot_name B = codes "slot B"
+-- no slot is booted in a recovery
+abbrev pub slot_name : Option Slot → List ℕ
+slot_name None = codes "slot -"
+slot_name (Some A) = codes "slot A"
+slot_name (Some B) = codes "slot B"
+
+abbrev pub drive_name : Drive → List ℕ
+drive_name drive.Disk = codes "disk"
+drive_name drive.Stick = codes "stick"
+
+-- a version that is stored, or none where its space has a fault
+abbrev pub version_name : Option ℕ → List ℕ
+version_name None = codes "-"
+version_name (Some version) = hex_number 4 version
 
 abbrev pub device_name : Device → List ℕ
 device_name device.Flash = codes "flash"
@@ -59,13 +76,26 @@ reboot_line reason subcode requested =
     line_of (codes "reboot reason " ++ decimal reason ++ codes " subcode " ++ decimal subcode ++ codes " requested "
     ++ requested_digit requested)
 
+abbrev pub kernel_line : Hand → List ℕ
+kernel_line hand =
+    line_of (codes "kernel " ++ drive_name hand.drive ++ codes " " ++ decimal hand.partition ++ codes " " ++ hex_number 4 hand.kernel_version
+    ++ codes " " ++ decimal hand.kernel_len ++ codes " " ++ hex_number 8 hand.load_address)
+
+abbrev pub stored_line : Option ℕ → Option ℕ → List ℕ
+stored_line firmware kernel = line_of (codes "stored " ++ version_name firmware ++ codes " " ++ version_name kernel)
+
+-- what is handed over
+abbrev pub hand_text : Hand → List ℕ
+hand_text hand =
+    line_of (mode_name hand.mode) ++ line_of (slot_name hand.slot) ++ firmware_line hand.fw_version hand.fw_len ++ kernel_line hand
+    ++ stored_line hand.stored_fw hand.stored_kernel ++ line_of (codes "hand over")
+
 -- what a boot comes to
 abbrev pub outcome_text : Outcome → List ℕ
-outcome_text (outcome.Verified developer slot version len) =
-    line_of (mode_name developer) ++ line_of (slot_name slot) ++ firmware_line version len
+outcome_text (outcome.HandOver hand) = hand_text hand
+outcome_text outcome.DevEnabled = line_of (codes "developer mode enabled")
 outcome_text (outcome.Reboot reason subcode requested) = reboot_line reason subcode requested
 outcome_text (outcome.Screen reason subcode) = line_of (codes "screen reason " ++ decimal reason ++ codes " subcode " ++ decimal subcode)
-outcome_text outcome.ManualRecovery = line_of (codes "not built recovery")
 outcome_text (outcome.BadFlash fault) = bad_flash_text fault
 
 abbrev pub text_of : Answer → List ℕ
@@ -92,11 +122,11 @@ device_code device.Stick = 7
 device_code device.Hook = 8
 
 abbrev pub outcome_code : Outcome → ℕ
-outcome_code (outcome.Verified developer slot version len) = 0
+outcome_code (outcome.HandOver hand) = 0
+outcome_code outcome.DevEnabled = 0
 outcome_code (outcome.Reboot reason subcode requested) = 2
 outcome_code (outcome.Screen reason subcode) = 3
 outcome_code (outcome.BadFlash fault) = 11
-outcome_code outcome.ManualRecovery = 19
 
 abbrev pub code_of : Answer → ℕ
 code_of answer.Usage = 1

@@ -1,6 +1,5 @@
 -- What the command that boots does, and how it ends.
-use Rattle.std.specs.Prelude.{◌≡◌, ◌⊎◌, ℕ, Bool, true, false, IsTrue, List, Result, Ok, Err}
-use Rattle.fwsel_core.specs.declared.slot.Slot.{Slot}
+use Rattle.std.specs.Prelude.{◌≡◌, ◌⊎◌, ℕ, true, IsTrue, Result, Ok, Err}
 use Rattle.board_core.specs.declared.counters.Counters.{Counters}
 use Rattle.board_core.specs.declared.device.Device.TheVariants as device
 use Rattle.board_core.specs.declared.device.Fault.{Fault}
@@ -11,19 +10,15 @@ use Rattle.board_core.specs.Tpm.{unlocked}
 use Rattle.board_core.specs.World.{World}
 use Rattle.rom_core.specs.Reading.{IsLowestMap, HasNoMap, Locates}
 use Rattle.boot_core.specs.declared.outcome.Outcome.{Outcome}
-use Rattle.boot_core.specs.declared.switches.Choice.TheVariants as choice
 use Rattle.boot_core.specs.declared.switches.Switches.{Switches}
-use Rattle.boot_core.specs.Steps.{both_locked}
-use Rattle.boot_core.specs.Boots.{IsTold, NeverFall, HandsFirmware, boot_plan, Boots}
+use Rattle.boot_core.specs.Hands.{Handed}
+use Rattle.boot_core.specs.Steps.{IsTold, both_locked, locks_at}
+use Rattle.boot_core.specs.Boots.{NeverFall, HandsOver, boot_plan, Boots}
 use Rattle.command_core.specs.declared.answer.Answer.{Answer}
 use Rattle.command_core.specs.declared.answer.Answer.TheVariants as answers
 use Rattle.command_core.specs.declared.answer.Status.{Status}
 use Rattle.command_core.specs.Answers.{outcome_code}
 use Rattle.command_core.specs.Prints.{Prints}
-
--- the switches of the words
-abbrev pub switches_of : Bool → Switches
-switches_of recovery = record { recovery = recovery; enable_dev = false; choice = choice.Default }
 
 -- the map is looked for here: the lowest multiple of 64 at which one stands, or 0
 abbrev pub IsLocated : FlashMedium → ℕ → Type 0
@@ -47,8 +42,8 @@ pub record BootsLocated (sw : Switches) (old new : World) (result : Result Outco
   -- the flash after it
   pub flash : FlashState
   pub locates : Locates old.flash flash (Ok at)
-  -- the firmware that the room hands out after it
-  pub handed : List ℕ
+  -- what the room hands out after it
+  pub handed : Handed
   pub boots : Boots sw (record old { flash = flash; map_at = at }) new handed result
 
 -- what holds of the board at each answer
@@ -90,15 +85,16 @@ pub record EndsPlanned (sw : Switches) (old : World) (status : Status) : Type 0 
   pub located : IsLocated old.flash.medium at
   pub code : status.code ≡ outcome_code (boot_plan sw (record old { map_at = at })).outcome
 
--- Firmware is handed over: that of a slot of the board, with its chain and no older than what is stored.
-pub record EndsVerified (old : World) : Type 0 where
+-- The boot came to the plan's outcome: developer mode is switched on, or firmware and kernel of the board are handed over, each with
+-- its chain and, where versions are checked, no older than what is stored. Both spaces are locked at a hand-over alone.
+pub record EndsHanded (sw : Switches) (old new : World) : Type 0 where
   pub at : ℕ
   pub located : IsLocated old.flash.medium at
-  pub slot : Slot
-  pub version : ℕ
-  pub len : ℕ
-  pub handed : List ℕ
-  pub hands : HandsFirmware (record old { map_at = at }) slot version len handed
+  pub outcome : Outcome
+  pub planned : outcome ≡ (boot_plan sw (record old { map_at = at })).outcome
+  pub handed : Handed
+  pub hands : HandsOver sw (record old { map_at = at }) handed outcome
+  pub locks : new.tpm.locks ≡ locks_at outcome
 
 -- A fault is answered only where that very device failed, once; and at every other status none did.
 pub record EndsFaults (old new : World) (put put' : StreamState) (status : Status) : Type 0 where
@@ -109,19 +105,21 @@ pub record EndsFaults (old new : World) (put put' : StreamState) (status : Statu
   pub sink_fault : status.code ≡ 9 → put'.faults ≡ raised put.faults
   pub no_flash_fault : (status.code ≡ 5 → ⊥) → (status.code ≡ 9 → ⊥) → NeverFailed old.flash.counters new.flash.counters
   pub no_tpm_fault : (status.code ≡ 6 → ⊥) → (status.code ≡ 9 → ⊥) → NeverFailed old.tpm.counters new.tpm.counters
+  pub no_drive_fault : (status.code ≡ 7 → ⊥) → (status.code ≡ 9 → ⊥)
+      → NeverFailed old.disk.counters new.disk.counters × NeverFailed old.stick.counters new.stick.counters
   pub no_hook_fault : (status.code ≡ 8 → ⊥) → (status.code ≡ 9 → ⊥) → new.hook.faults ≡ old.hook.faults
   pub no_sink_fault : (status.code ≡ 9 → ⊥) → put'.faults ≡ put.faults
 
--- Both spaces are locked where the boot goes on, and neither where it ends.
+-- Where the boot ends, neither space is locked; at status 0 both are or neither.
 pub record EndsLocks (new : World) (status : Status) : Type 0 where
-  pub locked : status.code ≡ 0 → new.tpm.locks ≡ both_locked
-  pub left_unlocked : (status.code ≡ 2) ⊎ ((status.code ≡ 3) ⊎ ((status.code ≡ 11) ⊎ (status.code ≡ 19))) → new.tpm.locks ≡ unlocked
+  pub at_zero : status.code ≡ 0 → (new.tpm.locks ≡ both_locked) ⊎ (new.tpm.locks ≡ unlocked)
+  pub left_unlocked : (status.code ≡ 2) ⊎ ((status.code ≡ 3) ⊎ (status.code ≡ 11)) → new.tpm.locks ≡ unlocked
 
 pub record BootEnds (sw : Switches) (old new : World) (put put' : StreamState) (status : Status) : Type 0 where
   -- where nothing failed, the status is that of the plan
   pub planned : IsTold old → IsNoFault status → EndsPlanned sw old status
-  -- at status 0 the chain of the slot is accepted, and its version is no older
-  pub verified : IsTold old → status.code ≡ 0 → EndsVerified old
+  -- at status 0 what is handed over has its chain, and is no older
+  pub handed : IsTold old → status.code ≡ 0 → EndsHanded sw old new
   pub faults : EndsFaults old new put put' status
   pub locks : EndsLocks new status
   -- want of memory comes before the first call of a device

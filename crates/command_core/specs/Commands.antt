@@ -1,5 +1,8 @@
 -- The words of each command.
-use Rattle.std.specs.Prelude.{◌≡◌, ℕ, ◌<◌, ◌^◌, true, false, List, [], ◌∷◌, codes, decimal, Option, Some, None, Result, Ok, Err}
+use Rattle.std.specs.Prelude.{◌≡◌, ℕ, ◌<◌, ◌^◌, Bool, true, false, List, [], ◌∷◌, ◌++◌, codes, decimal, Option, Some, None, Result, Ok, Err}
+use Rattle.boot_core.specs.declared.switches.Choice.{Choice}
+use Rattle.boot_core.specs.declared.switches.Choice.TheVariants.{Default, Internal, External}
+use Rattle.boot_core.specs.declared.switches.Switches.{Switches}
 use Rattle.cgpt_core.specs.declared.call.WordFault.{WordFault}
 use Rattle.cgpt_core.specs.declared.call.WordFault.TheVariants.{Usage, BadValue, Memory}
 use Rattle.cgpt_core.specs.declared.call.CgptDrive.{CgptDrive}
@@ -20,10 +23,27 @@ drive_word Stick = codes "stick"
 abbrev pub partition_words : CgptDrive → ℕ → List (List ℕ)
 partition_words drive index = codes "futility" ∷ codes "show" ∷ drive_word drive ∷ decimal index ∷ []
 
+-- a word that may be left out
+abbrev pub word_if : Bool → List ℕ → List (List ℕ)
+word_if false word = []
+word_if true word = word ∷ []
+
+-- the drive of a developer boot, where one is chosen
+abbrev pub choice_words : Choice → List (List ℕ)
+choice_words Default = []
+choice_words Internal = codes "internal" ∷ []
+choice_words External = codes "external" ∷ []
+
+-- the words that set the switches of a boot, in this order
+abbrev pub switch_words : Switches → List (List ℕ)
+switch_words sw = word_if sw.recovery (codes "recovery") ++ (word_if sw.enable_dev (codes "enable-dev") ++ choice_words sw.choice)
+
+abbrev pub boot_words : Switches → List (List ℕ)
+boot_words sw = codes "boot" ∷ switch_words sw
+
 -- the words are those of a command
 abbrev pub AreWordsOf : List (List ℕ) → Command → Type 0
-AreWordsOf words (Boot false) = words ≡ codes "boot" ∷ []
-AreWordsOf words (Boot true) = words ≡ codes "boot" ∷ codes "recovery" ∷ []
+AreWordsOf words (Boot sw) = words ≡ boot_words sw
 AreWordsOf words ShowFlash = words ≡ codes "futility" ∷ codes "show" ∷ codes "flash" ∷ []
 AreWordsOf words (Make number) = words ≡ codes "make" ∷ decimal number ∷ []
 AreWordsOf words (ShowPartition drive index) = words ≡ partition_words drive index
@@ -65,3 +85,9 @@ IsReadPlain words None = (command : Command) → IsInRange command → (IsCgpt c
 abbrev pub AreShowWords : List (List ℕ) → Command → Type 0
 AreShowWords words (ShowPartition drive index) = words ≡ partition_words drive index
 AreShowWords words other = ⊥
+
+-- Whether a first word stands there, which may be left out, and the words behind it.
+pub record Splits (first : List ℕ) (words : List (List ℕ)) (there : Bool) (rest : List (List ℕ)) : Type 0 where
+  pub some : there ≡ true → words ≡ first ∷ rest
+  pub none : there ≡ false → words ≡ rest
+  pub other : there ≡ false → (behind : List (List ℕ)) → words ≡ first ∷ behind → ⊥

@@ -9,7 +9,7 @@ use Rattle.command_core.specs.declared.command.Command.TheVariants.{Boot, ShowFl
 use Rattle.command_core.specs.Commands.{IsRead}
 use Rattle.command_core.specs.Answers.{answer_of_words}
 use Rattle.command_core.specs.Prints.{Prints}
-use Rattle.command_core.specs.Booting.{switches_of, BootRuns, BootEnds}
+use Rattle.command_core.specs.Booting.{BootRuns, BootEnds}
 use Rattle.command_core.specs.Making.{Makes}
 use Rattle.command_core.specs.Partitions.{WorksTable}
 use Rattle.command_core.specs.Showing.{Shows}
@@ -18,8 +18,8 @@ use Rattle.command_core.specs.KernelShowing.{ShowsKernel}
 -- words that are refused leave the board as it was
 abbrev pub RunsBy : Result Command WordFault → World → World → StreamState → StreamState → Status → Type 0
 RunsBy (Err fault) old new put put' status = (new ≡ old) × Prints (answer_of_words fault) put put' status
-RunsBy (Ok (Boot recovery)) old new put put' status =
-    BootRuns (switches_of recovery) old new put put' status × BootEnds (switches_of recovery) old new put put' status
+RunsBy (Ok (Boot sw)) old new put put' status =
+    BootRuns sw old new put put' status × BootEnds sw old new put put' status
 RunsBy (Ok ShowFlash) old new put put' status = Shows old new put put' status
 RunsBy (Ok (Make number)) old new put put' status = Makes number old new put put' status
 RunsBy (Ok (ShowPartition drive index)) old new put put' status = ShowsKernel drive index old new put put' status

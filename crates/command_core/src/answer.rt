@@ -1,12 +1,13 @@
 // What a command came to, with its text and its exit status.
-ghost use Rattle.std.specs.Prelude.{◌≡◌, ◌≤◌, ◌++◌, length};
-ghost use Rattle.command_core.specs.Answers.{line_of, reboot_line, text_of, code_of, device_name, device_code, refusal_name, outcome_text, outcome_code, answer_of_words};
+ghost use Rattle.std.specs.Prelude.{◌≡◌, ◌≤◌, ◌+◌, ◌++◌, length};
+ghost use Rattle.command_core.specs.Answers.{line_of, mode_name, slot_name, drive_name, version_name, firmware_line, kernel_line, stored_line, hand_text, reboot_line, text_of, code_of, device_name, device_code, refusal_name, outcome_text, outcome_code, answer_of_words};
 
 use board_core::{Device, Fault};
 use board_file::OpenFault;
-use boot_core::Outcome;
+use boot_core::{Drive, Hand, Outcome};
 use cgpt_core::WordFault;
 use fwsel_core::Slot;
+use kernel_core::BootMode;
 use rom_core::MapFault;
 use text_core::Text;
 
@@ -98,11 +99,10 @@ fn code_of_outcome(outcome: Outcome) -> u8
     ensures { result ≡ outcome_code outcome }
 {
     match outcome {
-        Outcome::Verified { .. } => 0,
+        Outcome::HandOver(_) | Outcome::DevEnabled => 0,
         Outcome::Reboot { .. } => 2,
         Outcome::Screen { .. } => 3,
         Outcome::BadFlash(_) => 11,
-        Outcome::ManualRecovery => 19,
     }
 }
 
@@ -186,42 +186,126 @@ fn text_of_outcome(outcome: Outcome) -> Text
     ensures { result ≡ outcome_text outcome }
 {
     match outcome {
-        Outcome::Verified {
-            developer,
-            slot,
-            version,
-            len,
-        } => verified_text(developer, slot, version, len),
+        Outcome::HandOver(hand) => hand_text(&hand),
+        Outcome::DevEnabled => line(b"developer mode enabled"),
         Outcome::Reboot {
             reason,
             subcode,
             requested,
         } => reboot_text(reason, subcode, requested),
         Outcome::Screen { reason, subcode } => screen_text(reason, subcode),
-        Outcome::ManualRecovery => line(b"not built recovery"),
         Outcome::BadFlash(fault) => bad_flash_text(fault),
     }
 }
 
-fn verified_text(developer: bool, slot: Slot, version: u32, len: u32) -> Text
-    ensures { result ≡ outcome_text (Outcome.Verified developer slot version len) }
+// What is handed over.
+fn hand_text(hand: &Hand) -> Text
+    ensures { result ≡ hand_text hand.now }
 {
     let mut text = Text::new();
-    text.push(if developer {
-        b"mode developer\n"
-    } else {
-        b"mode normal\n"
-    });
-    text.push(match slot {
-        Slot::A => b"slot A\n",
-        Slot::B => b"slot B\n",
-    });
+    push_line(&mut text, name_of_mode(hand.mode));
+    push_line(&mut text, name_of_slot(hand.slot));
+    push_firmware(&mut text, hand.fw_version, hand.fw_len);
+    push_kernel(&mut text, hand);
+    push_stored(&mut text, hand.stored_fw, hand.stored_kernel);
+    push_line(&mut text, b"hand over");
+    text
+}
+
+fn push_line(text: &mut Text, words: &[u8])
+    requires text { length text.old ≤ 1024 }
+    requires words { length words.now ≤ 64 }
+    ensures text { text.new ≡ text.old ++ line_of words.now }
+    ensures size { length text.new ≤ length text.old + 65 }
+{
+    text.push(words);
+    text.push(b"\n");
+}
+
+fn push_firmware(text: &mut Text, version: u32, len: u32)
+    requires { length text.old ≤ 1024 }
+    ensures text { text.new ≡ text.old ++ firmware_line version len }
+    ensures size { length text.new ≤ length text.old + 41 }
+{
     text.push(b"firmware ");
     text.push_hex(version);
     text.push(b" ");
     text.push_decimal(u64::from(len));
     text.push(b"\n");
-    text
+}
+
+fn push_kernel(text: &mut Text, hand: &Hand)
+    requires { length text.old ≤ 1024 }
+    ensures text { text.new ≡ text.old ++ kernel_line hand.now }
+    ensures size { length text.new ≤ length text.old + 85 }
+{
+    text.push(b"kernel ");
+    text.push(name_of_drive(hand.drive));
+    text.push(b" ");
+    text.push_decimal(u64::from(hand.partition));
+    text.push(b" ");
+    text.push_hex(hand.kernel_version);
+    text.push(b" ");
+    text.push_decimal(u64::from(hand.kernel_len));
+    text.push(b" ");
+    text.push_long_hex(hand.load_address);
+    text.push(b"\n");
+}
+
+fn push_stored(text: &mut Text, firmware: Option<u32>, kernel: Option<u32>)
+    requires { length text.old ≤ 1000 }
+    ensures text { text.new ≡ text.old ++ stored_line firmware kernel }
+    ensures size { length text.new ≤ length text.old + 29 }
+{
+    text.push(b"stored ");
+    push_version(text, firmware);
+    text.push(b" ");
+    push_version(text, kernel);
+    text.push(b"\n");
+}
+
+fn name_of_mode(mode: BootMode) -> &'static [u8]
+    ensures name { result.now ≡ mode_name mode }
+    ensures short { length result.now ≤ 14 }
+{
+    match mode {
+        BootMode::Normal => b"mode normal",
+        BootMode::Developer => b"mode developer",
+        BootMode::Recovery => b"mode recovery",
+    }
+}
+
+fn name_of_slot(slot: Option<Slot>) -> &'static [u8]
+    ensures name { result.now ≡ slot_name slot }
+    ensures short { length result.now ≤ 6 }
+{
+    match slot {
+        None => b"slot -",
+        Some(Slot::A) => b"slot A",
+        Some(Slot::B) => b"slot B",
+    }
+}
+
+fn name_of_drive(drive: Drive) -> &'static [u8]
+    ensures name { result.now ≡ drive_name drive }
+    ensures short { length result.now ≤ 5 }
+{
+    match drive {
+        Drive::Disk => b"disk",
+        Drive::Stick => b"stick",
+    }
+}
+
+// A version that is stored, or none.
+fn push_version(text: &mut Text, version: Option<u32>)
+    requires { length text.old ≤ 1024 }
+    ensures text { text.new ≡ text.old ++ version_name version }
+    ensures size { length text.new ≤ length text.old + 10 }
+{
+    match version {
+        Some(version) => text.push_hex(version),
+        None => text.push(b"-"),
+    }
 }
 
 fn reboot_text(reason: u8, subcode: u8, requested: bool) -> Text

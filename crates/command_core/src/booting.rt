@@ -1,34 +1,29 @@
 // The command that boots a board.
 ghost use Rattle.board_core.specs.World.{world};
 ghost use Rattle.boot_core.specs.Carries.{IsSettled};
-ghost use Rattle.command_core.specs.Booting.{switches_of, BootWorks, BootRuns, BootEnds};
+ghost use Rattle.command_core.specs.Booting.{BootWorks, BootRuns, BootEnds};
 
 use crate::answer::{Answer, Status};
 use crate::printing::print;
 use board_core::{Device, Disk, Flash, Hook, Platform, Sink, Tpm};
-use boot_core::{Choice, Room, Switches, boot};
+use boot_core::{Room, Switches, boot};
 use rom_core::locate;
 use std::alloc::Global;
 
-/// Boots a board with the recovery switch on or off, prints what it came to, and answers the exit status. Its memory is taken
+/// Boots a board with these switches, prints what it came to, and answers the exit status. Its memory is taken
 /// before the first call of a device.
 pub fn run_boot<F: Flash, T: Tpm, D: Disk, E: Disk, H: Hook, O: Sink>(
     alloc: Global,
     p: &mut Platform<F, T, D, E, H>,
-    recovery: bool,
+    sw: Switches,
     out: &mut O,
 ) -> Status
     requires { IsSettled (world F.state T.state H.state p.old) }
-    ensures runs { BootRuns (switches_of recovery) (world F.state T.state H.state p.old) (world F.state T.state H.state p.new)
+    ensures runs { BootRuns sw (world F.state T.state H.state p.old) (world F.state T.state H.state p.new)
         (O.state out.old) (O.state out.new) result }
-    ensures ends { BootEnds (switches_of recovery) (world F.state T.state H.state p.old) (world F.state T.state H.state p.new)
+    ensures ends { BootEnds sw (world F.state T.state H.state p.old) (world F.state T.state H.state p.new)
         (O.state out.old) (O.state out.new) result }
 {
-    let sw = Switches {
-        recovery,
-        enable_dev: false,
-        choice: Choice::Default,
-    };
     let answer = work_boot(alloc, p, sw);
     print(out, &answer)
 }

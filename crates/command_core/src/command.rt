@@ -3,6 +3,8 @@ ghost use Rattle.std.specs.Prelude.{◌≡◌, ◌≤◌, ◌<◌, ◌^◌, ◌�
 ghost use Rattle.cgpt_core.specs.declared.call.CgptDrive.{CgptDrive};
 ghost use Rattle.command_core.specs.Commands.{partition_words, AreShowWords, IsRead, IsReadPlain};
 
+use crate::switch_words::switches_behind;
+use boot_core::Switches;
 use cgpt_core::{CgptCall, CgptDrive, WordFault};
 use std::alloc::Global;
 use text_core::Text;
@@ -10,10 +12,8 @@ use text_core::Text;
 /// A command of the program.
 #[derive(Clone, Copy, Debug, PartialEq, Eq)]
 pub enum Command {
-    /// One boot, with the recovery switch on or off.
-    Boot {
-        recovery: bool,
-    },
+    /// One boot, with these switches.
+    Boot(Switches),
     /// The firmware of the flash as text.
     ShowFlash,
     /// The images of the machine of this number.
@@ -43,8 +43,8 @@ pub fn command_of(alloc: Global, words: &[String]) -> Result<Command, WordFault>
     Ok(Command::Cgpt(call))
 }
 
-// The words behind the first one, where that is this one.
-fn behind<'a>(words: &'a [String], first: &[u8]) -> Option<&'a [String]>
+/// The words behind the first one, where that is this one.
+pub fn behind<'a>(words: &'a [String], first: &[u8]) -> Option<&'a [String]>
     ensures some { IfSome result (λ rest. map string_bytes words.now ≡ first.now ∷ map string_bytes rest.now) }
     ensures none { IfNone result ((rest : List (List ℕ)) → map string_bytes words.now ≡ first.now ∷ rest → ⊥) }
 {
@@ -58,10 +58,8 @@ fn behind<'a>(words: &'a [String], first: &[u8]) -> Option<&'a [String]>
 fn plain_command(words: &[String]) -> Option<Command>
     ensures { IsReadPlain (map string_bytes words.now) result }
 {
-    if is_one(words, b"boot") {
-        Some(Command::Boot { recovery: false })
-    } else if are_two(words, b"boot", b"recovery") {
-        Some(Command::Boot { recovery: true })
+    if let Some(sw) = switches_behind(words) {
+        Some(Command::Boot(sw))
     } else if are_three(words, b"futility", b"show", b"flash") {
         Some(Command::ShowFlash)
     } else if let Some(number) = number_behind(words, b"make") {
@@ -71,8 +69,8 @@ fn plain_command(words: &[String]) -> Option<Command>
     }
 }
 
-// Whether there is one word, and it is this one.
-fn is_one(words: &[String], only: &[u8]) -> bool
+/// Whether there is one word, and it is this one.
+pub fn is_one(words: &[String], only: &[u8]) -> bool
     ensures { IsTrue result ↔ (map string_bytes words.now ≡ only.now ∷ []) }
 {
     match words {

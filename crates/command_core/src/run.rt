@@ -46,7 +46,7 @@ pub fn run_command<F: Flash, T: Tpm, D: Disk, E: Disk, H: Hook, O: Sink>(
     ensures not_usage { result.code ≡ 1 → ⊥ }
 {
     match command {
-        Command::Boot { recovery } => run_boot(alloc, p, recovery, out),
+        Command::Boot(sw) => run_boot(alloc, p, sw, out),
         Command::ShowFlash => run_show(p, out),
         Command::Make(number) => run_make(p, number, out),
         Command::ShowPartition { drive, index } => {

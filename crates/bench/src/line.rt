@@ -73,6 +73,10 @@ pub enum Line {
     Space(SpaceName, Vec<u8>),
     /// The machine accepts these signatures.
     Accept(Vec<HookRow>),
+    /// The machine is kept as it is.
+    Keep,
+    /// The kept machine is taken once more.
+    Again,
     /// These words are run with each call of a device failing in turn.
     Each(Failing, usize),
     /// These words are run.
@@ -147,8 +151,19 @@ pub fn line_of(alloc: Global, words: &[String]) -> Option<Line> {
         [verb, device, ..] if verb.as_str() == "each" => {
             Some(Line::Each(Failing::named(device.as_str())?, 2))
         }
+        [verb] if verb.as_str() == "keep" => Some(Line::Keep),
+        [verb] if verb.as_str() == "again" => Some(Line::Again),
         [verb, ..] => match verb.as_str() {
-            "machine" | "erased" | "disk" | "stick" | "rewrite" | "space" | "row" | "each" => None,
+            "machine"
+            | "erased"
+            | "disk"
+            | "stick"
+            | "rewrite"
+            | "space"
+            | "row"
+            | "keep"
+            | "again"
+            | "each" => None,
             _ => Some(Line::Words),
         },
         [] => None,

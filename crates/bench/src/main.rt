@@ -3,7 +3,7 @@
 //! Each line of the script is printed, and below it what it came to. `machine N` makes the machine of a number, without drives,
 //! and `erased N` one whose flash has so many erased bytes; `disk N` and `stick N` give it a drive of so many sectors of zeros;
 //! `rewrite IMAGE PLACE HEX` and `space firmware HEX` change its images, `row ALGORITHM KEY DIGEST SIGNATURE` enrolls a signature
-//! by the digests of its file; `each DEVICE WORDS` runs words with each call of a device failing in turn, with each of the remains,
+//! by the digests of its file; `keep` keeps the machine as it is, and `again` is the kept one once more; `each DEVICE WORDS` runs words with each call of a device failing in turn, with each of the remains,
 //! and then once more without a failure, and leaves the machine as it was; any other words are run on the machine. A line that
 //! begins with `#` is a comment.
 #![tactic(auto)]
@@ -106,6 +106,7 @@ fn rewrite(machine: &mut Machine, image: ImageName, at: usize, bytes: &[u8]) -> 
 fn work<R: Print + AllocGlobal>(
     rt: &R,
     made: &mut Option<(u32, Machine)>,
+    kept: &mut Option<Machine>,
     mut machine: Machine,
     words: &[String],
     number: u64,
@@ -146,6 +147,17 @@ fn work<R: Print + AllocGlobal>(
             }
             Ok(machine)
         }
+        Some(Line::Keep) => {
+            *kept = Some(machine.copy(alloc)?);
+            Ok(machine)
+        }
+        Some(Line::Again) => {
+            let Some(before) = kept else {
+                println!(rt; "  line {number} has no machine that was kept")?;
+                return Ok(machine);
+            };
+            Ok(before.copy(alloc)?)
+        }
         Some(Line::Each(device, from)) => {
             if from <= words.len() {
                 let words = &words[from..];
@@ -166,6 +178,7 @@ fn work<R: Print + AllocGlobal>(
 fn main(rt: HostRuntime) -> io::Result<()> {
     let mut machine = Machine::erased(rt.alloc(), 0)?;
     let mut made = None;
+    let mut kept = None;
     let mut number = 0u64;
     for line in rt.lines(rt.alloc()) {
         let line = line?;
@@ -176,7 +189,7 @@ fn main(rt: HostRuntime) -> io::Result<()> {
         }
         println!(rt; "{text}")?;
         let words = words_of(rt.alloc(), text)?;
-        machine = work(&rt, &mut made, machine, &words, number)?;
+        machine = work(&rt, &mut made, &mut kept, machine, &words, number)?;
     }
     Ok(())
 }

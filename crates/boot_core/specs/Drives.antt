@@ -1,6 +1,6 @@
 -- The drive that a boot looks at, what its kernels are held to, and what is seen on it.
--- Source: `vb2api_kernel_phase2` and `vb2_get_dev_boot_target` of vboot_reference (firmware/2lib/2kernel.c and 2misc.c); the flags of
--- the GBB are those of 2gbb_flags.h.
+-- Source: `vb2api_kernel_phase2`, `vb2_fill_dev_boot_flags` and `vb2api_get_dev_default_boot_target` of vboot_reference
+-- (firmware/2lib/2kernel.c and 2misc.c); the flags of the GBB are those of 2gbb_flags.h.
 use Rattle.std.specs.Prelude.{ℕ, Bool, true, false, not, ◌&&◌, ◌||◌, ◌==◌, if◌then◌else◌, List, [], Option, Some, None, Result, Ok, Err}
 use Rattle.record_core.specs.declared.field.NvField.TheVariants as field
 use Rattle.record_core.specs.declared.space.SpaceFault.{SpaceFault}

@@ -1,6 +1,6 @@
 -- The plan of a boot: its outcome and its changes, as one function of what the devices hold.
 -- Source: `vb2api_fw_phase1` to `vb2api_fw_phase3` and `vb2api_kernel_phase1` to `vb2api_kernel_finalize` of vboot_reference
--- (firmware/2lib/2api.c and 2kernel.c), and `vb2_developer_ui` and `vb2_manual_recovery_ui` for what a person asks for.
+-- (firmware/2lib/2api.c and 2kernel.c). What a person asks for, which is the menus' there, is by switches here.
 use Rattle.std.specs.Prelude.{ℕ, ◌&&◌, not, Bool, true, false, List, ◌++◌, Option, Some, None, Result, Ok, Err, if◌then◌else◌}
 use Rattle.record_core.specs.declared.space.SpaceFault.{SpaceFault}
 use Rattle.record_core.specs.Space.{firmware_flags}

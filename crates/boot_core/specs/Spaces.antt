@@ -1,6 +1,6 @@
 -- What a boot makes of the nvdata record and of both spaces of the TPM. A change that would change nothing is none.
--- Source: `vb2_select_fw_slot`, `vb2api_fail`, `vb2_enable_developer_mode` and the roll-forward of `vb2api_fw_phase3` and
--- `vb2api_kernel_finalize` of vboot_reference (firmware/2lib/2misc.c, 2api.c and 2kernel.c).
+-- Source: `vb2_select_fw_slot`, `vb2api_fail` and `vb2api_enable_developer_mode` of vboot_reference (firmware/2lib/2misc.c), and its
+-- roll-forward: `vb2_load_fw_preamble` (2firmware.c), `vb2api_load_kernel` (2load_kernel.c) and `vb2api_kernel_finalize` (2kernel.c).
 use Rattle.std.specs.Prelude.{ℕ, ◌≤◌, nat_lt, Bool, not, bit_or, List, Option, Some, None, Result, Ok, Err, ◌==◌, ◌&&◌, if◌then◌else◌}
 use Rattle.std.specs.Str.{bytes_eq}
 use Rattle.record_core.specs.declared.field.NvField.TheVariants as field

@@ -1,6 +1,7 @@
 //! The commands of the program over any board: from the words to the printed answer and the exit status.
 //!
-//! - `command` has the commands and their words, `switch_words` those of a boot, and `answer` what each came to, with its text and its exit status.
+//! - `command` has the commands and their words, `switch_words` those of a boot, and `answer` what each came to, with its text and
+//!   its exit status.
 //! - `booting`, `kernel_showing`, `making`, `partitions` and `showing` work a command on a board, and `run` any of them;
 //!   `printing` puts the answer.
 #![tactic(auto)]

@@ -3,9 +3,9 @@
 //! Each line of the script is printed, and below it what it came to. `machine N` makes the machine of a number, without drives,
 //! and `erased N` one whose flash has so many erased bytes; `disk N` and `stick N` give it a drive of so many sectors of zeros;
 //! `rewrite IMAGE PLACE HEX` and `space firmware HEX` change its images, `row ALGORITHM KEY DIGEST SIGNATURE` enrolls a signature
-//! by the digests of its file; `keep` keeps the machine as it is, and `again` is the kept one once more; `each DEVICE WORDS` runs words with each call of a device failing in turn, with each of the remains,
-//! and then once more without a failure, and leaves the machine as it was; any other words are run on the machine. A line that
-//! begins with `#` is a comment.
+//! by the digests of its file; `keep` keeps the machine as it is, and `again` is the kept one once more; `each DEVICE WORDS` runs
+//! words with each call of a device failing in turn, with each of the remains, and then once more without a failure, and leaves
+//! the machine as it was; any other words are run on the machine. A line that begins with `#` is a comment.
 #![tactic(auto)]
 
 mod line;

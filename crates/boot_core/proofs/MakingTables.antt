@@ -89,6 +89,6 @@ table_failed base area source table state w disk e settled armed h = record {
     mid = w;
     mid_frame = frame_same area w settled;
     whole = same_made (record { area = area; table = table }) w;
-    failed = (record { stands = h.fails }, refl, refl);
+    failed = (record { stands = h.fails; noted = h.writes.noted }, refl, refl);
   });
 }

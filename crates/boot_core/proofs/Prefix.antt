@@ -1,23 +1,25 @@
 -- What is left after a fault, as the state after so many changes or one more.
 use Rattle.std.proofs.Common.{◌≡◌, ℕ, ◌+◌, List, [], ◌∷◌, ◌++◌, length, take, drop, Bool, Option, refl, sym, ap, subst, ◌∙◌, arith, inl, inr, append_assoc, length-append}
-use Rattle.std.specs.Prelude.{fold, IsTrue}
+use Rattle.std.specs.Prelude.{fold, All, IsTrue}
 use Rattle.std.proofs.lemmas.List.Sums.{fold-append}
 use Rattle.std.proofs.lemmas.List.{take_at, drop_at, take_all, append-nil}
 use Rattle.board_core.specs.declared.counters.FuseState.TheVariants.{Armed, Dead}
 use Rattle.board_core.specs.declared.device.Device.{Device}
 use Rattle.board_core.specs.declared.device.Fault.{Fault}
 use Rattle.board_core.specs.Counters.{Rose}
-use Rattle.board_core.specs.Torn.{Logs}
+use Rattle.board_core.specs.Torn.{Logs, added}
 use Rattle.board_core.specs.Flash.{FlashMedium}
 use Rattle.board_core.specs.Disk.{DiskMedium}
 use Rattle.board_core.specs.Tpm.{Spaces}
 use Rattle.board_core.specs.World.{World}
+use Rattle.board_core.proofs.TornRange.{added_same}
+use Rattle.gpt_core.specs.Commits.{IsOfCommit, bytes_with_table}
 use Rattle.nvstore_core.specs.Pages.{record_in}
 use Rattle.nvstore_core.specs.Fair.{IsFairFlash}
 use Rattle.gpt_core.specs.Format.{PartitionTable}
 use Rattle.gpt_core.specs.Tables.{table_in, IsFairDisk}
 use Rattle.boot_core.specs.Changes.{Change, Firmware, Record, Table, Kernel, flash_with, disk_with, spaces_with, record_with, table_with, device_of, counters_on, calls_on}
-use Rattle.boot_core.specs.Carries.{Targets, Frame, IsMade, Fails, EndsBetween, EndsIn, EndsAt, OldOrNew}
+use Rattle.boot_core.specs.Carries.{Targets, Frame, IsMade, NotesTable, Fails, EndsBetween, EndsIn, EndsAt, OldOrNew}
 use Rattle.boot_core.specs.Steps.{IsTold}
 use Rattle.boot_core.specs.Boots.{BootPlan, State, state_of, changed_state, MayHaveMade, HasNoRecord, HasNoTable, AtFault}
 use Rattle.boot_core.proofs.Fairness.{fair_flash_from, fair_disk_from}
@@ -203,6 +205,32 @@ none_between P less before [] done is none =
     subst P whole none
 none_between P less before (x ∷ rest) done is none = less before x (subst P (taken_more before rest x done is) none)
 
+-- ---- the records of torn sectors
+
+-- none was added
+none_noted : (table : PartitionTable) (old new : DiskMedium) → new.torn ≡ old.torn → NotesTable table old new
+none_noted table old new same = subst (All (IsOfCommit old.sectors (bytes_with_table old.sectors table old.bytes))) (sym (ap (added old.torn) same ∙ added_same old.torn))
+    (λ k d less. absurd (let no : ⊥ = omega (arith, less) in no))
+
+-- on a disk that holds the same
+noted_as : (table : PartitionTable) (old mid new : DiskMedium) → mid.sectors ≡ old.sectors → mid.bytes ≡ old.bytes → mid.torn ≡ old.torn → NotesTable table mid new → NotesTable table old new
+noted_as table old mid new sectors bytes torn noted =
+    subst (λ (n : ℕ). All (IsOfCommit n (bytes_with_table n table old.bytes)) (added old.torn new.torn)) sectors
+    (subst (λ (bs : List ℕ). All (IsOfCommit mid.sectors (bytes_with_table mid.sectors table bs)) (added old.torn new.torn)) bytes
+    (subst (λ (logs : Logs). All (IsOfCommit mid.sectors (bytes_with_table mid.sectors table mid.bytes)) (added logs new.torn)) torn noted))
+
+-- by the change that failed
+noted_by : (to : Targets) (before : List Change) (next : Change) (old mid new : World) → IsTrue old.disk.medium.told → Frame to.area old mid → (next ≡ Table → HasNoTable before) → IsMade to before old mid → Fails to next mid new
+    → NotesTable to.table old.disk.medium new.disk.medium
+noted_by to before Table old mid new told frame one whole failed =
+    noted_as to.table old.disk.medium mid.disk.medium new.disk.medium frame.disk.sectors (disk_kept to before old mid told whole (one refl)) (whole.disk told).torn (failed.0.noted (subst IsTrue (sym frame.disk.told) told))
+noted_by to before (Record r) old mid new told frame one whole failed =
+    none_noted to.table old.disk.medium new.disk.medium (ap (λ (m : DiskMedium). m.torn) failed.2 ∙ (whole.disk told).torn)
+noted_by to before (Firmware b) old mid new told frame one whole failed =
+    none_noted to.table old.disk.medium new.disk.medium (ap (λ (m : DiskMedium). m.torn) failed.2 ∙ (whole.disk told).torn)
+noted_by to before (Kernel b) old mid new told frame one whole failed =
+    none_noted to.table old.disk.medium new.disk.medium (ap (λ (m : DiskMedium). m.torn) failed.2 ∙ (whole.disk told).torn)
+
 -- ---- a fault between two changes
 
 between : (plan : BootPlan) (fault : Fault) (old new : World) → Frame plan.to.area old new → EndsBetween 0 plan.to plan.changes fault old new → AtFault plan fault old new
@@ -222,6 +250,7 @@ between plan fault old new frame h =
       disk = λ told none.
           disk_kept plan.to h.before old new told h.whole
           (none_between HasNoTable no_table_before h.before h.behind fault.done count (subst (λ (zs : List Change). HasNoTable (take (fault.done + 1) zs)) h.place none));
+      noted = λ told. none_noted plan.to.table old.disk.medium new.disk.medium (h.whole.disk told).torn;
       fell = λ left keep armed dead. let was = h.alive fault.device dead in absurd (let no : ⊥ = cc in no);
     }
 
@@ -267,6 +296,7 @@ within plan fault old new ends one =
           let here : HasNoTable (ends.before ++ ends.next ∷ []) = subst HasNoTable more none in
           ap (λ (m : DiskMedium). m.bytes) (disk_failed plan.to ends.next ends.mid new (no_table_here ends.before ends.next here) ends.failed)
           ∙ disk_kept plan.to ends.before old ends.mid told ends.whole (no_table_before ends.before ends.next here);
+      noted = λ told. noted_by plan.to ends.before ends.next old ends.mid new told ends.mid_frame one ends.whole ends.failed;
       fell = λ left keep armed dead.
           let fell = ends.fell left keep (subst (λ (d : Device). (counters_on d old).stop ≡ Armed left keep) ends.device armed) (subst (λ (d : Device). (counters_on d new).stop ≡ Dead) ends.device dead) in
           let few : calls_on fault.device plan.state (take fault.done plan.changes) ≡ calls_on (device_of ends.next) plan.state ends.before =

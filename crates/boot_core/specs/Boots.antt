@@ -27,7 +27,7 @@ use Rattle.boot_core.specs.declared.outcome.Outcome.{Outcome}
 use Rattle.boot_core.specs.declared.outcome.Outcome.TheVariants as outcome
 use Rattle.boot_core.specs.declared.plan.Plan.{Plan}
 use Rattle.boot_core.specs.Changes.{Change, Record, Table, spaces_with, record_with, table_with, device_of, counters_on, calls_on}
-use Rattle.boot_core.specs.Carries.{Targets, CountsBoard, Frame, IsMade}
+use Rattle.boot_core.specs.Carries.{Targets, CountsBoard, Frame, IsMade, NotesTable}
 use Rattle.boot_core.specs.Spaces.{IsNoLower}
 use Rattle.boot_core.specs.Facts.{found_of, facts_of}
 use Rattle.boot_core.specs.Slots.{slot_asked}
@@ -162,6 +162,8 @@ pub record AtFault (plan : BootPlan) (fault : Fault) (old new : World) : Type 0 
   pub flash : IsTrue old.flash.medium.told → HasNoRecord (take (fault.done + 1) plan.changes) → new.flash.medium ≡ old.flash.medium
   -- the bytes of the disk, where no table was to be written by then
   pub disk : IsTrue old.disk.medium.told → HasNoTable (take (fault.done + 1) plan.changes) → new.disk.medium.bytes ≡ old.disk.medium.bytes
+  -- the records of torn sectors that were added are of the copies, and were meant to hold the table of the plan
+  pub noted : IsTrue old.disk.medium.told → NotesTable plan.to.table old.disk.medium new.disk.medium
   -- a stop that fell, fell in the change after those that are done
   pub fell : (left keep : ℕ) → (counters_on fault.device old).stop ≡ Armed left keep → (counters_on fault.device new).stop ≡ Dead
       → (calls_on fault.device plan.state (take fault.done plan.changes) < left)

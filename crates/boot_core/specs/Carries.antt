@@ -1,11 +1,11 @@
 -- Parts of a boot: reads and checks, and changes that are made one after another, up to the first call that fails.
-use Rattle.std.specs.Prelude.{◌≡◌, ◌⊎◌, ℕ, ◌+◌, ◌<◌, ◌≤◌, List, [], ◌∷◌, ◌++◌, length, fold, IsTrue, Result, is_err, OnOk, IfErr}
+use Rattle.std.specs.Prelude.{◌≡◌, ◌⊎◌, ℕ, ◌+◌, ◌<◌, ◌≤◌, List, [], ◌∷◌, ◌++◌, length, fold, All, IsTrue, Result, is_err, OnOk, IfErr}
 use Rattle.board_core.specs.declared.counters.FuseState.TheVariants.{Armed, Dead}
 use Rattle.board_core.specs.declared.device.Device.{Device}
 use Rattle.board_core.specs.declared.device.Device.TheVariants as device
 use Rattle.board_core.specs.declared.device.Fault.{Fault}
 use Rattle.board_core.specs.Counters.{MadeStep, CountsFaults, Rose}
-use Rattle.board_core.specs.Torn.{Grown}
+use Rattle.board_core.specs.Torn.{Grown, added}
 use Rattle.board_core.specs.Fault.{is_fault_of}
 use Rattle.board_core.specs.Flash.{FlashMedium}
 use Rattle.board_core.specs.Disk.{DiskMedium}
@@ -16,7 +16,7 @@ use Rattle.nvstore_core.specs.Saving.{SameButPages}
 use Rattle.nvstore_core.specs.Fair.{FailsToStore}
 use Rattle.gpt_core.specs.Format.{PartitionTable}
 use Rattle.gpt_core.specs.Tables.{table_in}
-use Rattle.gpt_core.specs.Commits.{SameButCopies, FailsToCommit}
+use Rattle.gpt_core.specs.Commits.{SameButCopies, IsOfCommit, FailsToCommit, bytes_with_table}
 use Rattle.boot_core.specs.Changes.{Change, Record, Table, flash_with, record_with, spaces_with, disk_with, table_with, device_of, counters_on, calls_on}
 
 -- where changes go: the place of nvdata in the flash, in bytes, and the table that is written
@@ -108,9 +108,14 @@ pub record IsMade (to : Targets) (changes : List Change) (old new : World) : Typ
 abbrev pub OldOrNew : {A : Type 0} → A → A → A → Type 0
 OldOrNew before after now = (now ≡ before) ⊎ (now ≡ after)
 
+-- each record of a torn sector that was added is of one of the copies, and was meant to hold what this table has there
+abbrev pub NotesTable : PartitionTable → DiskMedium → DiskMedium → Type 0
+NotesTable table old new = All (IsOfCommit old.sectors (bytes_with_table old.sectors table old.bytes)) (added old.torn new.torn)
+
 -- a table that was not written whole: on a fair disk the old one stands or the new one
 pub record FailsToWrite (table : PartitionTable) (old new : DiskMedium) : Type 0 where
   pub stands : IsTrue old.told → FailsToCommit table old new
+  pub noted : IsTrue old.told → NotesTable table old new
 
 -- what the change that failed leaves on its device; the others were not called
 abbrev pub Fails : Targets → Change → World → World → Type 0

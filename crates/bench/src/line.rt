@@ -117,55 +117,88 @@ fn space_named(name: &str) -> Option<SpaceName> {
     }
 }
 
+// The number that these words are.
+fn one_number(words: &[String]) -> Option<u32> {
+    match words {
+        [number] => number_in(number.as_str()),
+        _ => None,
+    }
+}
+
+// The image, the place and the bytes that these words are.
+fn rewrite_in(alloc: Global, words: &[String]) -> Option<Line> {
+    let [image, place, digits] = words else {
+        return None;
+    };
+    let image = ImageName::named(image.as_str())?;
+    let place = number_in(place.as_str())?;
+    Some(Line::Rewrite(image, place, bytes_in(alloc, digits.as_str())?))
+}
+
+// The space and its bytes that these words are.
+fn space_in(alloc: Global, words: &[String]) -> Option<Line> {
+    let [space, digits] = words else {
+        return None;
+    };
+    let space = space_named(space.as_str())?;
+    Some(Line::Space(space, bytes_in(alloc, digits.as_str())?))
+}
+
+// The signature that these words are.
+fn signature_in(alloc: Global, words: &[String]) -> Option<Line> {
+    let [algorithm, key, digest, signature] = words else {
+        return None;
+    };
+    let rows = rows_in(
+        alloc,
+        algorithm.as_str(),
+        key.as_str(),
+        digest.as_str(),
+        signature.as_str(),
+    )?;
+    Some(Line::Accept(rows))
+}
+
+// The device that these words begin with; the others are a command.
+fn each_in(words: &[String]) -> Option<Line> {
+    match words {
+        [device, ..] => Some(Line::Each(Failing::named(device.as_str())?, 2)),
+        [] => None,
+    }
+}
+
+// The line, where no word is left.
+fn alone(words: &[String], line: Line) -> Option<Line> {
+    if words.is_empty() { Some(line) } else { None }
+}
+
+// The line of a verb that changes the machine, and of the words behind it; the outer `None` where it is no such verb.
+fn change_in(alloc: Global, verb: &str, words: &[String]) -> Option<Option<Line>> {
+    match verb {
+        "machine" => Some(one_number(words).map(Line::Machine)),
+        "erased" => Some(one_number(words).map(Line::Erased)),
+        "disk" => Some(one_number(words).map(Line::Disk)),
+        "stick" => Some(one_number(words).map(Line::Stick)),
+        "rewrite" => Some(rewrite_in(alloc, words)),
+        "space" => Some(space_in(alloc, words)),
+        "row" => Some(signature_in(alloc, words)),
+        "keep" => Some(alone(words, Line::Keep)),
+        "again" => Some(alone(words, Line::Again)),
+        _ => None,
+    }
+}
+
 /// What the words of a line ask for; `None` where they are of no form.
 pub fn line_of(alloc: Global, words: &[String]) -> Option<Line> {
-    match words {
-        [verb, number] if verb.as_str() == "machine" => {
-            Some(Line::Machine(number_in(number.as_str())?))
-        }
-        [verb, number] if verb.as_str() == "erased" => {
-            Some(Line::Erased(number_in(number.as_str())?))
-        }
-        [verb, number] if verb.as_str() == "disk" => Some(Line::Disk(number_in(number.as_str())?)),
-        [verb, number] if verb.as_str() == "stick" => {
-            Some(Line::Stick(number_in(number.as_str())?))
-        }
-        [verb, image, place, digits] if verb.as_str() == "rewrite" => {
-            let image = ImageName::named(image.as_str())?;
-            let place = number_in(place.as_str())?;
-            Some(Line::Rewrite(image, place, bytes_in(alloc, digits.as_str())?))
-        }
-        [verb, space, digits] if verb.as_str() == "space" => {
-            let space = space_named(space.as_str())?;
-            Some(Line::Space(space, bytes_in(alloc, digits.as_str())?))
-        }
-        [verb, algorithm, key, digest, signature] if verb.as_str() == "row" => Some(Line::Accept(
-            rows_in(
-                alloc,
-                algorithm.as_str(),
-                key.as_str(),
-                digest.as_str(),
-                signature.as_str(),
-            )?,
-        )),
-        [verb, device, ..] if verb.as_str() == "each" => {
-            Some(Line::Each(Failing::named(device.as_str())?, 2))
-        }
-        [verb] if verb.as_str() == "keep" => Some(Line::Keep),
-        [verb] if verb.as_str() == "again" => Some(Line::Again),
-        [verb, ..] => match verb.as_str() {
-            "machine"
-            | "erased"
-            | "disk"
-            | "stick"
-            | "rewrite"
-            | "space"
-            | "row"
-            | "keep"
-            | "again"
-            | "each" => None,
-            _ => Some(Line::Words),
-        },
-        [] => None,
+    let [verb, ..] = words else {
+        return None;
+    };
+    let rest = &words[1..];
+    if verb.as_str() == "each" {
+        return each_in(rest);
+    }
+    match change_in(alloc, verb.as_str(), rest) {
+        Some(line) => line,
+        None => Some(Line::Words),
     }
 }

@@ -1,5 +1,6 @@
-# One boot of a machine, worked out from the description of its formats and rules alone, and the bench over it: a script of
-# cases is read, and the transcript is what the bench is to print. Calls of devices do not fail here.
+# One boot of a machine and what is shown of it, worked out from the description of its formats and rules alone, and the bench
+# over it: a script of cases is read, and the transcript is what the bench is to print. Calls of devices fail here in lines
+# `each` on tables of drives and on `make` alone.
 import contextlib, functools, hashlib, io, os, re, struct, types, uuid, zlib
 
 # The images of a machine of a number, with the names of images.py.
@@ -468,6 +469,45 @@ def table_text(name, disk):
                      f'{priority(e)} tries {tries(e)} successful {successful(e)} label' + (label and ' ' + label))
     return lines, 0
 
+# ASCII before the first NUL, and `?` for each byte that is not printable.
+def plain_text(bs): return ''.join(chr(x) if 0x20 <= x <= 0x7e else '?' for x in bs.split(b'\0')[0])
+
+# Lines on a keyblock and on the preamble behind it, tested by their bytes alone: up to `last_line` of the table of the preamble.
+def keyblock_and_preamble(name, bs, fault, last_line, fields):
+    line = keyblock_form(bs, 24)
+    if line: return [f'{name} keyblock fault {line}']
+    lines = [f'{name} keyblock {u32(bs, 16)} flags {u32(bs, 72)} key {u32(bs, 96)} version {u32(bs, 104)}']
+    bs, any_key = bs[u32(bs, 16):], types.SimpleNamespace(algorithm=0, version=0, bytes=b'')
+    line = fault(Machine(), bs, any_key, None)
+    return lines + [f'{name} preamble fault {line}' if 0 < line <= last_line else f'{name} preamble {fields(bs)}']
+
+def firmware_fields(bs): return f'{u32(bs, 0)} version {u32(bs, 40)} flags 0x{u32(bs, 104):08x} body {u32(bs, 96)}'
+def kernel_fields(bs): return f'{u32(bs, 0)} version {u32(bs, 40)} load 0x{u64(bs, 48):016x} body {u32(bs, 88)}'
+
+def flash_text(flash):
+    at = map_place(flash)
+    areas = read_map(flash, at)
+    if isinstance(areas, int): return [f'bad flash {areas}'], 11
+    lines = [f'flash {len(flash)} map {at}'] + [f'area {name} {place} {size}' for name, (place, size) in zip(AREAS, areas)]
+    content = lambda area: flash[area[0]:sum(area)]
+    gbb = content(areas[0])
+    if isinstance(read_gbb(gbb), int): lines.append(f'gbb fault {read_gbb(gbb)}')
+    else:
+        hwid = plain_text(gbb[u32(gbb, 16):u32(gbb, 16)+u32(gbb, 20)])
+        lines.append(f'gbb minor {u16(gbb, 6)} flags 0x{u32(gbb, 12):08x} hwid' + (hwid and ' ' + hwid))
+    for name, k in (('slot A', 2), ('slot B', 4)): lines += keyblock_and_preamble(name, content(areas[k]), fw_preamble_fault, 8, firmware_fields)
+    return lines, 0
+
+def partition_text(disk, i):
+    table = read_table(disk)[0]
+    if not table: return ['refused cgpt NoTable'], 14
+    if not 1 <= i <= 128 or not any(entry(table, i)[:16]): return ['refused cgpt NoEntry'], 14
+    first, last = u64(entry(table, i), 32), u64(entry(table, i), 40)
+    if last - first + 1 < 128: return [f'partition {i} short'], 0
+    return keyblock_and_preamble(f'partition {i}', disk[512*first:512*first+65536], kernel_preamble_fault, 7, kernel_fields), 0
+
+def is_number(word): return word.isdecimal() and str(int(word)) == word and int(word) < 2**32
+
 # The text, the status and the machine after words; None where this model does not know the command.
 def run_words(m, words):
     if words[0] == 'boot':
@@ -475,15 +515,65 @@ def run_words(m, words):
         if switches is None: return ['usage'], 1, m
         plan = plan_of(m, **switches)
         return plan.text, plan.status, after_boot(m, plan)
-    if words[0] == 'make' and len(words) == 2 and words[1].isdecimal() and str(int(words[1])) == words[1] and int(words[1]) < 2**32:
+    if words[0] == 'make' and len(words) == 2 and is_number(words[1]):
         after = made(m, int(words[1]))
         return ([f'refused make size {after}'], 16, m) if isinstance(after, str) else ([], 0, after)
+    if words == ['futility', 'show', 'flash']: return *flash_text(m.flash), m
+    if words[:2] == ['futility', 'show'] and len(words) == 4 and words[2] in ('disk', 'stick') and is_number(words[3]):
+        return *partition_text(getattr(m, words[2]), int(words[3])), m
+    if words[0] in ('make', 'futility'): return ['usage'], 1, m
     if words[:2] == ['cgpt', 'show'] and words[2:] in (['disk'], ['stick']): return *table_text(words[2], getattr(m, words[2])), m
     if words[:2] == ['cgpt', 'repair'] and words[2:] in (['disk'], ['stick']):
         table, _, agree = read_table(getattr(m, words[2]))
         if not table: return ['refused cgpt NoTable'], 14, m
         return (['agree'], 0, m) if agree else (['repaired'], 0, m.copy(**{words[2]: with_table(getattr(m, words[2]), table)}))
     return None
+
+# The calls of a drive that `cgpt show` and `cgpt repair` make: None for each of both reads, then the sectors that are written, as
+# (first, count), and (0, 0) for a flush.
+def table_calls(verb, disk):
+    table, source, agree = read_table(disk)
+    calls = [None, None] if 69 <= len(disk) // 512 <= 4294967296 else []
+    if verb == 'show' or not table or agree: return calls
+    for head, at in copies(disk)[::-1 if source == 'primary' else 1]: calls += [(at, 32), (head, 1), (0, 0)]
+    return calls
+
+# Each of these calls fails once: what is pending then is old, new or zero afterwards.
+def each_table_call(m, words):
+    verb, drive = words[1:]
+    disk, lines = getattr(m, drive), []
+    calls = table_calls(verb, disk)
+    after = with_table(disk, read_table(disk)[0]) if len(calls) > 2 else disk
+    for remains in ('old', 'new', 'zeros'):
+        state, pending = disk, []
+        for number, call in enumerate(calls, 1):
+            if call and call[1]: pending.append(slice(512 * call[0], 512 * sum(call)))
+            left = state
+            for span in pending: left = changed(left, span.start, {'old': disk[span], 'new': after[span], 'zeros': bytes(len(disk[span]))}[remains])
+            now = m.copy(**{drive: left})
+            text, status, _ = run_words(now, words)
+            lines += [f'  - call {number} {remains}', f'  fault {drive}', '  status 7', *machine_lines(m, now),
+                      '  then ' + ''.join(line + ', ' for line in text) + f'status {status}']
+            if call == (0, 0):
+                for span in pending: state = changed(state, span.start, after[span])
+                pending = []
+    return lines
+
+# `make` of a machine over one of the right sizes, where each call of the TPM or of the hook fails once: the TPM is started and its
+# spaces are written after the flash, and the rows are enrolled last, those that stand too.
+def each_make_call(m, device, words):
+    after, rows, lines = made(m, int(words[1])), images_of(int(words[1]))[3], []
+    steps = {'tpm': [{}, {'firmware': after.firmware}, {'kernel': after.kernel}],
+             'hook': [{'rows': m.rows + [row for row in rows[:k] if row not in m.rows]} for k in range(1, 16)]}[device]
+    for remains in ('old', 'new', 'zeros'):
+        state = m.copy(flash=after.flash) if device == 'tpm' else after.copy(rows=m.rows)
+        for number, step in enumerate(steps, 1):
+            left = state.copy(**step) if (device, remains) == ('tpm', 'new') else state
+            text, status, _ = run_words(left, words)
+            lines += [f'  - call {number} {remains}', f'  fault {device}', f'  status {6 if device == "tpm" else 8}', *machine_lines(m, left),
+                      '  then ' + ''.join(line + ', ' for line in text) + f'status {status}']
+            state = state.copy(**step)
+    return lines
 
 # ---- the bench ----
 # The changed bytes of an image, as (place, end) of each run of bytes that are all other ones.
@@ -521,7 +611,11 @@ class Bench:
         if not text or text.startswith('#'): return
         self.out.append(text)
         verb, *words = text.split() or ['']
-        if verb not in FORMS:
+        if verb == 'each' and words and words[0] in ('disk', 'stick') and words[1:] in (['cgpt', 'show', words[0]], ['cgpt', 'repair', words[0]]):
+            self.out += each_table_call(self.m, words[1:])
+        elif verb == 'each' and re.fullmatch(r'(tpm|hook) make \d+', ' '.join(words)) and not isinstance(made(self.m, int(words[2])), str):
+            self.out += each_make_call(self.m, words[0], words[1:])
+        elif verb not in FORMS:
             ran = None if verb == 'each' else run_words(self.m, [verb] + words)
             if ran is None: self.out.append('  ?'); return
             lines, status, after = ran

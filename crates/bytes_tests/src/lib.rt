@@ -1,14 +1,10 @@
-//! Rows from outside for the calls over bytes alone: checksums, texts, keyblocks, preambles, records and decisions.
+//! What the calls over bytes alone answer, by rows from outside: checksums, fields of a record, texts, and numbers of faults.
 #![tactic(auto)]
 
 #[cfg(test)]
-mod keys;
-#[cfg(test)]
-mod preambles;
+mod faults;
 #[cfg(test)]
 mod records;
-#[cfg(test)]
-mod selections;
 #[cfg(test)]
 mod texts;
 #[cfg(test)]

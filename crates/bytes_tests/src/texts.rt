@@ -22,13 +22,3 @@ fn parts(rt: HostRuntime) {
         b"a 0 18446744073709551615 0x00000000 0x12abcdef 0x0000000123abcdef\n".as_slice()
     );
 }
-
-#[test]
-fn a_long_text(rt: HostRuntime) {
-    let mut text = Text::new();
-    text.push(&[b'x'; 2018]);
-    text.push_decimal(1_234_567_890);
-    text.push_hex(7);
-    assert_eq!(rt; text.as_slice().len(), 2038);
-    assert!(rt; text.as_slice().ends_with(b"xx12345678900x00000007"));
-}

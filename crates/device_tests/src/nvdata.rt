@@ -1,0 +1,137 @@
+// The store over a flash in memory: it is stopped in the middle of a call, and it stores many records one after another; and the
+// premise on what a failed call leaves is met by such a flash.
+ghost use Rattle.std.specs.Prelude.{◌≡◌, ◌+◌, ◌*◌, ◌%◌, ◌≤◌, Some};
+ghost use Rattle.board_mem.specs.declared.fails.Remains.TheVariants.{Old, New, Fill};
+ghost use Rattle.board_mem.specs.Fails.{next_failure};
+ghost use Rattle.board_mem.specs.MemFlash.{mem_flash_state, mem_flash_plan};
+ghost use Rattle.nvstore_core.specs.Fair.{IsFairFlash};
+
+use board_core::{Failed, Flash, Fuse};
+use board_mem::MemFlash;
+use nvstore_core::{page_head, *};
+use record_core::{Nv, NvField};
+use std::alloc::{AllocError, Global};
+use std::test::Fail;
+
+const AREA: u32 = 4096;
+
+const NO_HEAD: [u8; 16] = [0xff; 16];
+
+// A blank record with this count of tries.
+fn record_of(tries: u8) -> Nv
+    requires { tries ≤ 15 }
+{
+    let mut nv = Nv::blank();
+    nv.set(NvField::TryCount, tries);
+    nv
+}
+
+// Appends a page with this head, and with this record in its first cells.
+fn put_page(
+    content: &mut Vec<u8>,
+    head: &[u8; 16],
+    used: usize,
+    nv: &Nv,
+) -> Result<(), AllocError> {
+    content.extend_from_slice(head)?;
+    for cell in 0..255 {
+        if cell < used {
+            content.extend_from_slice(&nv.bytes())?;
+        } else {
+            content.extend_from_slice(&NO_HEAD)?;
+        }
+    }
+    Ok(())
+}
+
+// A flash whose two pages lie behind an erased one. Page 0 holds the record of 1 try, and page 1 that of 2.
+fn flash_of(
+    alloc: Global,
+    first: (&[u8; 16], usize),
+    second: (&[u8; 16], usize),
+) -> Result<Vec<u8>, AllocError> {
+    let mut content = Vec::new(alloc);
+    put_page(&mut content, &NO_HEAD, 0, &Nv::blank())?;
+    put_page(&mut content, first.0, first.1, &record_of(1))?;
+    put_page(&mut content, second.0, second.1, &record_of(2))?;
+    Ok(content)
+}
+
+// The premise on remains is met by a flash in memory: a program of a cell or a head that fails leaves fair remains, where
+// the list names the old bytes, the new ones or zeros.
+fn program_fairly(flash: &mut MemFlash, at: u32, bytes: &[u8; 16]) -> Result<(), Failed>
+    requires area { 4096 ≤ at }
+    requires piece { at % 16 ≡ 0 }
+    requires inside { at + 16 ≤ (mem_flash_state flash.old).medium.size }
+    ensures old { next_failure (mem_flash_plan flash.old) ≡ Some Old
+        → IsFairFlash 4096 (mem_flash_state flash.old).medium (mem_flash_state flash.new).medium }
+    ensures new { next_failure (mem_flash_plan flash.old) ≡ Some New
+        → IsFairFlash 4096 (mem_flash_state flash.old).medium (mem_flash_state flash.new).medium }
+    ensures zeros { next_failure (mem_flash_plan flash.old) ≡ Some (Fill 0)
+        → IsFairFlash 4096 (mem_flash_state flash.old).medium (mem_flash_state flash.new).medium }
+{
+    flash.program(at, bytes)
+}
+
+// And so does an erase of a page that fails.
+fn erase_fairly(flash: &mut MemFlash, page: u32) -> Result<(), Failed>
+    requires area { 1 ≤ page }
+    requires inside { page * 4096 + 4096 ≤ (mem_flash_state flash.old).medium.size }
+    ensures old { next_failure (mem_flash_plan flash.old) ≡ Some Old
+        → IsFairFlash 4096 (mem_flash_state flash.old).medium (mem_flash_state flash.new).medium }
+    ensures new { next_failure (mem_flash_plan flash.old) ≡ Some New
+        → IsFairFlash 4096 (mem_flash_state flash.old).medium (mem_flash_state flash.new).medium }
+    ensures zeros { next_failure (mem_flash_plan flash.old) ≡ Some (Fill 0)
+        → IsFairFlash 4096 (mem_flash_state flash.old).medium (mem_flash_state flash.new).medium }
+{
+    flash.erase(page)
+}
+
+#[test]
+fn a_switch_is_stopped_at_each_call(rt: HostRuntime) -> Result<(), Fail> {
+    let alloc = rt.alloc();
+    let content = flash_of(alloc, (&page_head(0), 255), (&NO_HEAD, 0))?;
+    assert_eq!(rt; content.len(), 12288);
+    // The stop, how many bytes of the chosen call happen, and the tries of the record that stands then.
+    for (call, keep, tries) in [(1, 0, 1), (1, 4096, 1), (2, 8, 1), (3, 15, 1), (3, 16, 3)] {
+        let mut fuse = Fuse::new(alloc, MemFlash::new(alloc, &content, &[])?);
+        fuse.arm(call, keep)?;
+        assert_eq!(rt; fuse.size(), 12288);
+        let mut state = load(&mut fuse, AREA)?;
+        assert_eq!(rt;
+            save(&mut fuse, AREA, &mut state, &record_of(3)),
+            Err(Failed)
+        );
+        fuse.revive();
+        assert_eq!(rt; fuse.size(), 12288);
+        let found = load(&mut fuse, AREA)?;
+        assert!(rt; found.stands);
+        assert_eq!(rt; found.nv.get(NvField::TryCount), tries);
+        let mut head = NO_HEAD;
+        fuse.read(AREA + 4096, &mut head)?;
+        assert_eq!(rt; head[15] == 0x68, tries == 3);
+    }
+    Ok(())
+}
+
+#[test]
+fn saves_follow_one_another(rt: HostRuntime) -> Result<(), Fail> {
+    let alloc = rt.alloc();
+    let content = flash_of(alloc, (&NO_HEAD, 0), (&NO_HEAD, 0))?;
+    assert_eq!(rt; content.len(), 12288);
+    let mut flash = MemFlash::new(alloc, &content, &[])?;
+    assert_eq!(rt; flash.size(), 12288);
+    let mut state = load(&mut flash, AREA)?;
+    assert!(rt; !state.stands && state.nv == Nv::blank());
+    for count in 0..800u16 {
+        let nv = record_of((count % 16) as u8);
+        save(&mut flash, AREA, &mut state, &nv)?;
+        assert!(rt; load(&mut flash, AREA)?.holds(&nv));
+    }
+    // Three pages are full, and the fourth has the other 35.
+    assert_eq!(rt;
+        (state.page, state.generation, state.next),
+        (Some(1), 0, 35)
+    );
+    Ok(())
+}

@@ -14,12 +14,8 @@ fn write_piece<D: Disk>(disk: &mut D, lba: u64, bytes: &[u8; PIECE_SIZE]) -> Res
     requires inside { lba + 64 ≤ (D.state disk.old).medium.sectors }
     ensures { WritesPiece lba bytes.now (D.state disk.old) (D.state disk.new) (is_err result) }
 {
-    let Ok(()) = disk.write(lba, bytes) else {
-        return Err(Failed);
-    };
-    let Ok(()) = disk.flush() else {
-        return Err(Failed);
-    };
+    disk.write(lba, bytes)?;
+    disk.flush()?;
     Ok(())
 }
 
@@ -34,9 +30,7 @@ pub fn write_drive<D: Disk>(disk: &mut D, number: u32, drive: &Drive) -> Result<
 {
     for piece in 0..PIECES {
         let bytes = make_piece(number, drive, piece);
-        let Ok(()) = write_piece(disk, (piece * PIECE_SECTORS) as u64, &bytes) else {
-            return Err(Failed);
-        };
+        write_piece(disk, (piece * PIECE_SECTORS) as u64, &bytes)?;
     }
     Ok(())
 }

@@ -11,11 +11,7 @@ use board_core::{Failed, Space, Tpm};
 pub fn write_spaces<T: Tpm>(tpm: &mut T) -> Result<(), Failed>
     ensures { WritesSpaces (T.state tpm.old) (T.state tpm.new) (is_err result) }
 {
-    let Ok(()) = tpm.startup() else {
-        return Err(Failed);
-    };
-    let Ok(()) = tpm.write(Space::Firmware, &FIRMWARE_SPACE) else {
-        return Err(Failed);
-    };
+    tpm.startup()?;
+    tpm.write(Space::Firmware, &FIRMWARE_SPACE)?;
     tpm.write(Space::Kernel, &KERNEL_SPACE)
 }

@@ -23,9 +23,7 @@ fn blank_page<F: Flash>(flash: &mut F, page: u32) -> Result<(), Failed>
     ensures { BlanksPage (page * 4096) (F.state flash.old) (F.state flash.new) (is_err result) }
 {
     let mut was = [0; 4096];
-    let Ok(()) = flash.read(page * PAGE_SIZE, &mut was) else {
-        return Err(Failed);
-    };
+    flash.read(page * PAGE_SIZE, &mut was)?;
     if is_blank(&was) {
         return Ok(());
     }
@@ -50,9 +48,7 @@ fn rewrite_page<F: Flash>(flash: &mut F, page: u32, bytes: &[u8; 4096]) -> Resul
     requires inside { page * 4096 + 4096 ≤ (F.state flash.old).medium.size }
     ensures { RewritesPage (page * 4096) bytes.now (F.state flash.old) (F.state flash.new) (is_err result) }
 {
-    let Ok(()) = blank_page(flash, page) else {
-        return Err(Failed);
-    };
+    blank_page(flash, page)?;
     fill_page(flash, page, bytes)
 }
 
@@ -65,9 +61,7 @@ pub fn write_flash<F: Flash>(flash: &mut F, number: u32) -> Result<(), Failed>
     ensures { WritesFlash (machine_flash number) (F.state flash.old) (F.state flash.new) (is_err result) }
 {
     for page in 0..FLASH_SIZE / PAGE_SIZE {
-        let Ok(()) = rewrite_page(flash, page, &make_page(number, page)) else {
-            return Err(Failed);
-        };
+        rewrite_page(flash, page, &make_page(number, page))?;
     }
     Ok(())
 }

@@ -1,4 +1,5 @@
 use Rattle.std.proofs.Common.{◌≡◌, ◌*◌, ◌∙◌, List, ℕ, subst, arith, true, false}
+use Rattle.std.proofs.lemmas.Result.{err_from_is_err_and}
 use Rattle.board_core.specs.Flash.{range}
 use Rattle.make_core.specs.Layout.{machine_flash}
 use Rattle.make_core.specs.Pages.{RewritesPage}
@@ -9,21 +10,22 @@ use Rattle.make_core.proofs.writing.write_flash.Goals as goal
 pub loop-page-init : goal.loop-page-init
 loop-page-init g c = so_far_none (machine_flash c.args.number) _
 
-pub returns-in_default : goal.returns-in_default
-returns-in_default g c =
+pub returns-in_err-rewrite_page : goal.returns-in_err-rewrite_page
+returns-in_err-rewrite_page g c =
     let mid = g.F.Flash.state c.loop-page.flash in
     let new = g.F.Flash.state c.rewrite_page.new.flash in
     let rewrites : RewritesPage (c.loop-page.page * 4096) (range (machine_flash c.args.number) (c.loop-page.page * 4096) 4096) mid new true =
-    subst (λ (bytes : List ℕ). RewritesPage (c.loop-page.page * 4096) bytes mid new true) c.make_page.ensures c.in_default.ensures in
-    writes_stopped (machine_flash c.args.number) c.loop-page.page (g.F.Flash.state c.args.flash.now) mid new c.loop-page-test.true (length-machine_flash c.args.number)
-    (λ told. g.met.F.Flash.told_size c.args.flash.now told ∙ c.requires) c.loop-page.invariant rewrites
+    subst (λ (bytes : List ℕ). RewritesPage (c.loop-page.page * 4096) bytes mid new true) c.make_page.ensures c.in_err-rewrite_page.ensures in
+    let error = err_from_is_err_and c.from_residual.result c.from_residual.ensures.1 in
+    rw error.1 (writes_stopped (machine_flash c.args.number) c.loop-page.page (g.F.Flash.state c.args.flash.now) mid new c.loop-page-test.true (length-machine_flash c.args.number)
+    (λ told. g.met.F.Flash.told_size c.args.flash.now told ∙ c.requires) c.loop-page.invariant rewrites)
 
 pub loop-page-preserved : goal.loop-page-preserved
 loop-page-preserved g c =
     let mid = g.F.Flash.state c.loop-page.flash in
     let new = g.F.Flash.state c.rewrite_page.new.flash in
     let rewrites : RewritesPage (c.loop-page.page * 4096) (range (machine_flash c.args.number) (c.loop-page.page * 4096) 4096) mid new false =
-    subst (λ (bytes : List ℕ). RewritesPage (c.loop-page.page * 4096) bytes mid new false) c.make_page.ensures c.in-Ok.ensures in
+    subst (λ (bytes : List ℕ). RewritesPage (c.loop-page.page * 4096) bytes mid new false) c.make_page.ensures c.in_ok-rewrite_page.ensures in
     so_far_more (machine_flash c.args.number) c.loop-page.page (g.F.Flash.state c.args.flash.now) mid new c.loop-page-test.true (length-machine_flash c.args.number)
     (λ told. g.met.F.Flash.told_size c.args.flash.now told ∙ c.requires) c.loop-page.invariant rewrites
 

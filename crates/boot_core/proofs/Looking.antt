@@ -3,12 +3,13 @@ use Rattle.std.proofs.Common.{◌≡◌, ℕ, true, false, Result, Ok, Err, refl
 use Rattle.std.specs.Prelude.{IsTrue}
 use Rattle.std.proofs.lemmas.Bool.{false≢true}
 use Rattle.board_core.specs.declared.counters.Counters.{Counters}
+use Rattle.board_core.specs.declared.device.Device.{Device}
 use Rattle.board_core.specs.declared.device.Device.TheVariants as device
 use Rattle.board_core.specs.declared.device.Fault.{Fault}
 use Rattle.board_core.specs.Counters.{Observed}
 use Rattle.board_core.specs.Fault.{is_fault_of}
 use Rattle.board_core.specs.Flash.{FlashState}
-use Rattle.board_core.specs.Disk.{DiskMedium}
+use Rattle.board_core.specs.Disk.{DiskMedium, DiskState}
 use Rattle.board_core.specs.Hook.{HookState}
 use Rattle.board_core.specs.Tpm.{TpmState}
 use Rattle.board_core.specs.World.{World}
@@ -49,85 +50,54 @@ tpm_failed done = record { device = device.Tpm; done = done }
 abbrev pub hook_failed : ℕ → Fault
 hook_failed done = record { device = device.Hook; done = done }
 
-pub looks_none : {T : Type 0} (w : World) (x : T) → Looks {T = T} w w (Ok x)
-looks_none w x = record {
-  flash = observed_none _;
-  tpm = observed_none _;
-  disk = observed_none _;
-  stick = observed_none _;
-  hook = asked_none _;
-  medium = refl;
-  tpm_told = refl;
-  spaces = refl;
-  same_disk = same_disk _;
-  same_stick = same_disk _;
-  map_at = refl;
-}
-
-pub looks_flash : {T : Type 0} (w : World) (flash : FlashState) (x : T) → Observed w.flash.counters flash.counters false → flash.medium ≡ w.flash.medium → Looks {T = T} w (record w { flash = flash }) (Ok x)
-looks_flash w flash x counters medium = record {
-  flash = counters;
-  tpm = observed_none _;
-  disk = observed_none _;
-  stick = observed_none _;
-  hook = asked_none _;
-  medium = medium;
-  tpm_told = refl;
-  spaces = refl;
-  same_disk = same_disk _;
-  same_stick = same_disk _;
-  map_at = refl;
-}
-
-pub looks_flash_failed : {T : Type 0} (w : World) (flash : FlashState) (done : ℕ) → Observed w.flash.counters flash.counters true → flash.medium ≡ w.flash.medium → Looks {T = T} w (record w { flash = flash }) (Err (flash_failed done))
-looks_flash_failed w flash done counters medium = record {
-  flash = counters;
-  tpm = observed_none _;
-  disk = observed_none _;
-  stick = observed_none _;
-  hook = asked_none _;
-  medium = medium;
-  tpm_told = refl;
-  spaces = refl;
-  same_disk = same_disk _;
-  same_stick = same_disk _;
-  map_at = refl;
-}
-
 -- what a TPM keeps while it is looked at
 pub record SameSpaces (old new : TpmState) : Type 0 where
   pub told : new.told ≡ old.told
   pub spaces : new.spaces ≡ old.spaces
 
-pub looks_tpm : {T : Type 0} (w : World) (tpm : TpmState) (x : T) → Observed w.tpm.counters tpm.counters false → SameSpaces w.tpm tpm → Looks {T = T} w (record w { tpm = tpm }) (Ok x)
-looks_tpm w tpm x counters same = record {
-  flash = observed_none _;
-  tpm = counters;
-  disk = observed_none _;
-  stick = observed_none _;
-  hook = asked_none _;
-  medium = refl;
+pub same_tpm : (a : TpmState) → SameSpaces a a
+same_tpm a = record { told = refl; spaces = refl }
+
+-- the devices of a board, each with what it came to
+pub looks_by : {T : Type 0} (w : World) (flash : FlashState) (tpm : TpmState) (disk stick : DiskState) (hook : HookState) (result : Result T Fault)
+    → Observed w.flash.counters flash.counters (is_fault_of device.Flash result) → flash.medium ≡ w.flash.medium
+    → Observed w.tpm.counters tpm.counters (is_fault_of device.Tpm result) → SameSpaces w.tpm tpm
+    → Observed w.disk.counters disk.counters (is_fault_of device.Disk result) → SameDisk w.disk.medium disk.medium
+    → Observed w.stick.counters stick.counters (is_fault_of device.Stick result) → SameDisk w.stick.medium stick.medium
+    → Asked w.hook hook (is_fault_of device.Hook result) → Looks w (record w { flash = flash; tpm = tpm; disk = disk; stick = stick; hook = hook }) result
+looks_by w flash tpm disk stick hook result flash_called medium tpm_called same disk_called kept_disk stick_called kept_stick asked = record {
+  flash = flash_called;
+  tpm = tpm_called;
+  disk = disk_called;
+  stick = stick_called;
+  hook = asked;
+  medium = medium;
   tpm_told = same.told;
   spaces = same.spaces;
-  same_disk = same_disk _;
-  same_stick = same_disk _;
+  same_disk = kept_disk;
+  same_stick = kept_stick;
   map_at = refl;
 }
 
+pub looks_none : {T : Type 0} (w : World) (x : T) → Looks {T = T} w w (Ok x)
+looks_none w x =
+    looks_by w w.flash w.tpm w.disk w.stick w.hook (Ok x) (observed_none _) refl (observed_none _) (same_tpm _) (observed_none _) (same_disk _) (observed_none _) (same_disk _) (asked_none _)
+
+pub looks_flash : {T : Type 0} (w : World) (flash : FlashState) (x : T) → Observed w.flash.counters flash.counters false → flash.medium ≡ w.flash.medium → Looks {T = T} w (record w { flash = flash }) (Ok x)
+looks_flash w flash x counters medium =
+    looks_by w flash w.tpm w.disk w.stick w.hook (Ok x) counters medium (observed_none _) (same_tpm _) (observed_none _) (same_disk _) (observed_none _) (same_disk _) (asked_none _)
+
+pub looks_flash_failed : {T : Type 0} (w : World) (flash : FlashState) (done : ℕ) → Observed w.flash.counters flash.counters true → flash.medium ≡ w.flash.medium → Looks {T = T} w (record w { flash = flash }) (Err (flash_failed done))
+looks_flash_failed w flash done counters medium =
+    looks_by w flash w.tpm w.disk w.stick w.hook (Err (flash_failed done)) counters medium (observed_none _) (same_tpm _) (observed_none _) (same_disk _) (observed_none _) (same_disk _) (asked_none _)
+
+pub looks_tpm : {T : Type 0} (w : World) (tpm : TpmState) (x : T) → Observed w.tpm.counters tpm.counters false → SameSpaces w.tpm tpm → Looks {T = T} w (record w { tpm = tpm }) (Ok x)
+looks_tpm w tpm x counters same =
+    looks_by w w.flash tpm w.disk w.stick w.hook (Ok x) (observed_none _) refl counters same (observed_none _) (same_disk _) (observed_none _) (same_disk _) (asked_none _)
+
 pub looks_tpm_failed : {T : Type 0} (w : World) (tpm : TpmState) (done : ℕ) → Observed w.tpm.counters tpm.counters true → SameSpaces w.tpm tpm → Looks {T = T} w (record w { tpm = tpm }) (Err (tpm_failed done))
-looks_tpm_failed w tpm done counters same = record {
-  flash = observed_none _;
-  tpm = counters;
-  disk = observed_none _;
-  stick = observed_none _;
-  hook = asked_none _;
-  medium = refl;
-  tpm_told = same.told;
-  spaces = same.spaces;
-  same_disk = same_disk _;
-  same_stick = same_disk _;
-  map_at = refl;
-}
+looks_tpm_failed w tpm done counters same =
+    looks_by w w.flash tpm w.disk w.stick w.hook (Err (tpm_failed done)) (observed_none _) refl counters same (observed_none _) (same_disk _) (observed_none _) (same_disk _) (asked_none _)
 
 -- the flash and the hook are asked, by the device that failed
 abbrev pub with_asked : World → FlashState → HookState → World
@@ -135,19 +105,11 @@ with_asked w flash hook = record w { flash = flash; hook = hook }
 
 pub looks_asked : {T : Type 0} (w : World) (flash : FlashState) (hook : HookState) (result : Result T Fault) → Observed w.flash.counters flash.counters (is_fault_of device.Flash result) → Asked w.hook hook (is_fault_of device.Hook result)
     → flash.medium ≡ w.flash.medium → is_fault_of device.Tpm result ≡ false → is_fault_of device.Disk result ≡ false → is_fault_of device.Stick result ≡ false → Looks w (with_asked w flash hook) result
-looks_asked w flash hook result counters asked medium no_tpm no_disk no_stick = record {
-  flash = counters;
-  tpm = subst (Observed w.tpm.counters w.tpm.counters) (sym no_tpm) (observed_none _);
-  disk = subst (Observed w.disk.counters w.disk.counters) (sym no_disk) (observed_none _);
-  stick = subst (Observed w.stick.counters w.stick.counters) (sym no_stick) (observed_none _);
-  hook = asked;
-  medium = medium;
-  tpm_told = refl;
-  spaces = refl;
-  same_disk = same_disk _;
-  same_stick = same_disk _;
-  map_at = refl;
-}
+looks_asked w flash hook result counters asked medium no_tpm no_disk no_stick =
+    looks_by w flash w.tpm w.disk w.stick hook result counters medium
+    (subst (Observed w.tpm.counters w.tpm.counters) (sym no_tpm) (observed_none _)) (same_tpm _)
+    (subst (Observed w.disk.counters w.disk.counters) (sym no_disk) (observed_none _)) (same_disk _)
+    (subst (Observed w.stick.counters w.stick.counters) (sym no_stick) (observed_none _)) (same_disk _) asked
 
 -- ---- one after another
 
@@ -167,13 +129,13 @@ looks_then a b c x result h k = record {
 }
 
 -- the same calls, whatever they would have answered
-pub looks_as : {T U : Type 0} (a b : World) (x : T) (y : U) → Looks a b (Ok x) → Looks a b (Ok y)
-looks_as a b x y h = record {
-  flash = h.flash;
-  tpm = h.tpm;
-  disk = h.disk;
-  stick = h.stick;
-  hook = h.hook;
+looks_of : {T U : Type 0} (a b : World) (x : Result T Fault) (y : Result U Fault) → ((d : Device) → is_fault_of d x ≡ is_fault_of d y) → Looks a b x → Looks a b y
+looks_of a b x y same h = record {
+  flash = subst (Observed a.flash.counters b.flash.counters) (same device.Flash) h.flash;
+  tpm = subst (Observed a.tpm.counters b.tpm.counters) (same device.Tpm) h.tpm;
+  disk = subst (Observed a.disk.counters b.disk.counters) (same device.Disk) h.disk;
+  stick = subst (Observed a.stick.counters b.stick.counters) (same device.Stick) h.stick;
+  hook = subst (Asked a.hook b.hook) (same device.Hook) h.hook;
   medium = h.medium;
   tpm_told = h.tpm_told;
   spaces = h.spaces;
@@ -182,17 +144,8 @@ looks_as a b x y h = record {
   map_at = h.map_at;
 }
 
+pub looks_as : {T U : Type 0} (a b : World) (x : T) (y : U) → Looks a b (Ok x) → Looks a b (Ok y)
+looks_as a b x y h = looks_of a b (Ok x) (Ok y) (λ d. refl) h
+
 pub looks_err : {T U : Type 0} (a b : World) (fault : Fault) → Looks {T = T} a b (Err fault) → Looks {T = U} a b (Err fault)
-looks_err a b fault h = record {
-  flash = h.flash;
-  tpm = h.tpm;
-  disk = h.disk;
-  stick = h.stick;
-  hook = h.hook;
-  medium = h.medium;
-  tpm_told = h.tpm_told;
-  spaces = h.spaces;
-  same_disk = h.same_disk;
-  same_stick = h.same_stick;
-  map_at = h.map_at;
-}
+looks_err a b fault h = looks_of a b (Err fault) (Err fault) (λ d. refl) h

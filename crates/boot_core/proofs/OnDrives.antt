@@ -18,7 +18,7 @@ use Rattle.boot_core.specs.declared.drives.Drive.{Drive}
 use Rattle.boot_core.specs.declared.drives.Drive.TheVariants.{Disk, Stick}
 use Rattle.boot_core.specs.Steps.{Looks, LooksAtDrive}
 use Rattle.boot_core.specs.Drives.{drive_asked, with_disk, fault_on}
-use Rattle.boot_core.proofs.Looking.{observed_none, same_disk}
+use Rattle.boot_core.proofs.Looking.{observed_none, same_disk, same_tpm, looks_by}
 
 -- the answer of a board
 abbrev pub said : Drive → Result Seen Failure → Result Seen Fault
@@ -34,84 +34,12 @@ only_read a b h = record { sectors = h.sectors; told = h.told; none_pending = λ
 
 seen_looks : (drive : Drive) (key : PackedKey) (rules : KernelRules) (w : World) (room : RoomView) (disk : DiskState) (hook : HookState) (body : List ℕ) (r : Result Seen Failure)
     → Sees (drive_asked drive key rules w) room disk hook body r → Looks w (looked drive w disk hook) (said drive r)
-seen_looks Disk key rules w room disk hook body (Ok seen) h = record {
-  flash = observed_none _;
-  tpm = observed_none _;
-  disk = h.counters;
-  stick = observed_none _;
-  hook = h.asked;
-  medium = refl;
-  tpm_told = refl;
-  spaces = refl;
-  same_disk = only_read _ _ h.keeps;
-  same_stick = same_disk _;
-  map_at = refl;
-}
-seen_looks Disk key rules w room disk hook body (Err Store) h = record {
-  flash = observed_none _;
-  tpm = observed_none _;
-  disk = h.counters;
-  stick = observed_none _;
-  hook = h.asked;
-  medium = refl;
-  tpm_told = refl;
-  spaces = refl;
-  same_disk = only_read _ _ h.keeps;
-  same_stick = same_disk _;
-  map_at = refl;
-}
-seen_looks Disk key rules w room disk hook body (Err Hook) h = record {
-  flash = observed_none _;
-  tpm = observed_none _;
-  disk = h.counters;
-  stick = observed_none _;
-  hook = h.asked;
-  medium = refl;
-  tpm_told = refl;
-  spaces = refl;
-  same_disk = only_read _ _ h.keeps;
-  same_stick = same_disk _;
-  map_at = refl;
-}
-seen_looks Stick key rules w room disk hook body (Ok seen) h = record {
-  flash = observed_none _;
-  tpm = observed_none _;
-  disk = observed_none _;
-  stick = h.counters;
-  hook = h.asked;
-  medium = refl;
-  tpm_told = refl;
-  spaces = refl;
-  same_disk = same_disk _;
-  same_stick = only_read _ _ h.keeps;
-  map_at = refl;
-}
-seen_looks Stick key rules w room disk hook body (Err Store) h = record {
-  flash = observed_none _;
-  tpm = observed_none _;
-  disk = observed_none _;
-  stick = h.counters;
-  hook = h.asked;
-  medium = refl;
-  tpm_told = refl;
-  spaces = refl;
-  same_disk = same_disk _;
-  same_stick = only_read _ _ h.keeps;
-  map_at = refl;
-}
-seen_looks Stick key rules w room disk hook body (Err Hook) h = record {
-  flash = observed_none _;
-  tpm = observed_none _;
-  disk = observed_none _;
-  stick = h.counters;
-  hook = h.asked;
-  medium = refl;
-  tpm_told = refl;
-  spaces = refl;
-  same_disk = same_disk _;
-  same_stick = only_read _ _ h.keeps;
-  map_at = refl;
-}
+seen_looks Disk key rules w room disk hook body (Ok seen) h = looks_by w w.flash w.tpm disk w.stick hook (said Disk (Ok seen)) (observed_none _) refl (observed_none _) (same_tpm _) h.counters (only_read _ _ h.keeps) (observed_none _) (same_disk _) h.asked
+seen_looks Disk key rules w room disk hook body (Err Store) h = looks_by w w.flash w.tpm disk w.stick hook (said Disk (Err Store)) (observed_none _) refl (observed_none _) (same_tpm _) h.counters (only_read _ _ h.keeps) (observed_none _) (same_disk _) h.asked
+seen_looks Disk key rules w room disk hook body (Err Hook) h = looks_by w w.flash w.tpm disk w.stick hook (said Disk (Err Hook)) (observed_none _) refl (observed_none _) (same_tpm _) h.counters (only_read _ _ h.keeps) (observed_none _) (same_disk _) h.asked
+seen_looks Stick key rules w room disk hook body (Ok seen) h = looks_by w w.flash w.tpm w.disk disk hook (said Stick (Ok seen)) (observed_none _) refl (observed_none _) (same_tpm _) (observed_none _) (same_disk _) h.counters (only_read _ _ h.keeps) h.asked
+seen_looks Stick key rules w room disk hook body (Err Store) h = looks_by w w.flash w.tpm w.disk disk hook (said Stick (Err Store)) (observed_none _) refl (observed_none _) (same_tpm _) (observed_none _) (same_disk _) h.counters (only_read _ _ h.keeps) h.asked
+seen_looks Stick key rules w room disk hook body (Err Hook) h = looks_by w w.flash w.tpm w.disk disk hook (said Stick (Err Hook)) (observed_none _) refl (observed_none _) (same_tpm _) (observed_none _) (same_disk _) h.counters (only_read _ _ h.keeps) h.asked
 
 -- what holds of what was seen holds of the board's answer
 if_said : (drive : Drive) (P : Seen → Type 0) (r : Result Seen Failure) → IfOk r P → IfOk (said drive r) P

@@ -1,9 +1,6 @@
 -- Each candidate is examined as the drive was before, and each exit says what was found.
-use Rattle.std.proofs.Common.{ℕ, Some, None, Ok, Err, take, sum_by, ap, ◌∙◌, arith}
-use Rattle.gpt_core.specs.Entries.{first_in}
+use Rattle.std.proofs.Common.{Some, None, Ok, Err, ap, ◌∙◌, arith}
 use Rattle.walk_core.specs.Kernels.{Drive}
-use Rattle.walk_core.specs.Chosen.{sectors_in}
-use Rattle.walk_core.specs.Steps.{entry_in_order, most_sectors_of_rank}
 use Rattle.walk_core.proofs.OrderFacts.{ordered}
 use Rattle.walk_core.proofs.SameDrives.{kernel_after_call}
 use Rattle.walk_core.proofs.FirstSteps.{gone_none, gone_more, first_taken, first_failed, first_none}
@@ -20,57 +17,24 @@ loop-place-init g c =
 
 pub loop-place-preserved : goal.loop-place-preserved
 loop-place-preserved g c =
-    let d : Drive = record { disk = g.D.Disk.state c.args.disk.now; hook = g.H.Hook.state c.args.hook.now; key = c.args.key.now; rules = c.args.rules.now } in
-    let entries = c.args.gpt.now.table.entries in
-    let ranks = c.args.ranks.now in
-    let place : ℕ = c.loop-place.place in
-    let k : ℕ = entry_in_order ranks place in
-    let disk' = g.D.Disk.state c.loop-place.disk in
-    let hook' = g.H.Hook.state c.loop-place.hook in
-    let disk'' = g.D.Disk.state c.examine_kernel.new.disk in
-    let hook'' = g.H.Hook.state c.examine_kernel.new.hook in
-    let body = c.examine_kernel.new.body in
     let gone = c.loop-place.invariant.gone in
-    let after = kernel_after_call (sum_by (most_sectors_of_rank d entries) (take place ranks)) d (first_in entries k) (sectors_in entries k) c.partition_of-first.result.0 c.partition_of-first.result.1
-    disk' disk'' hook' hook'' body (Ok None) c.examine_kernel.result gone.looks gone.asked c.examine_kernel.ensures.meets c.partition_of-first.ensures.first c.partition_of-first.ensures.sectors
-    (c.in-Ok-None.is ∙ ap Ok c.in-Ok-None.field-0-is) in
-    record { gone = gone_more d entries ranks place disk' disk'' hook' hook'' body (ordered entries ranks c.requires.ranked) c.loop-place-test.true gone after }
+    let after = kernel_after_call _ _ _ _ _ _ _ _ _ _ c.examine_kernel.new.body (Ok None) c.examine_kernel.result gone.looks gone.asked c.examine_kernel.ensures.meets c.partition_of-first.ensures.first
+    c.partition_of-first.ensures.sectors (c.in-Ok-None.is ∙ ap Ok c.in-Ok-None.field-0-is) in
+    record { gone = gone_more _ _ _ c.loop-place.place _ _ _ _ _ (ordered _ _ c.requires.ranked) c.loop-place-test.true gone after }
 
 pub returns-in-Ok-Some : goal.returns-in-Ok-Some
 returns-in-Ok-Some g c =
-    let d : Drive = record { disk = g.D.Disk.state c.args.disk.now; hook = g.H.Hook.state c.args.hook.now; key = c.args.key.now; rules = c.args.rules.now } in
-    let entries = c.args.gpt.now.table.entries in
-    let ranks = c.args.ranks.now in
-    let place : ℕ = c.loop-place.place in
-    let k : ℕ = entry_in_order ranks place in
-    let disk' = g.D.Disk.state c.loop-place.disk in
-    let hook' = g.H.Hook.state c.loop-place.hook in
-    let disk'' = g.D.Disk.state c.examine_kernel.new.disk in
-    let hook'' = g.H.Hook.state c.examine_kernel.new.hook in
-    let body = c.examine_kernel.new.body in
     let gone = c.loop-place.invariant.gone in
-    let after = kernel_after_call (sum_by (most_sectors_of_rank d entries) (take place ranks)) d (first_in entries k) (sectors_in entries k) c.partition_of-first.result.0 c.partition_of-first.result.1
-    disk' disk'' hook' hook'' body (Ok (Some c.in-Ok-Some.head)) c.examine_kernel.result gone.looks gone.asked c.examine_kernel.ensures.meets c.partition_of-first.ensures.first c.partition_of-first.ensures.sectors
-    (c.in-Ok-Some.is ∙ ap Ok c.in-Ok-Some.field-0-is) in
-    record { meets = first_taken d entries ranks place disk' disk'' hook' hook'' body c.in-Ok-Some.head (ordered entries ranks c.requires.ranked) c.loop-place-test.true gone after }
+    let after = kernel_after_call _ _ _ _ _ _ _ _ _ _ c.examine_kernel.new.body (Ok (Some c.in-Ok-Some.head)) c.examine_kernel.result gone.looks gone.asked c.examine_kernel.ensures.meets
+    c.partition_of-first.ensures.first c.partition_of-first.ensures.sectors (c.in-Ok-Some.is ∙ ap Ok c.in-Ok-Some.field-0-is) in
+    record { meets = first_taken _ _ _ c.loop-place.place _ _ _ _ _ c.in-Ok-Some.head (ordered _ _ c.requires.ranked) c.loop-place-test.true gone after }
 
 pub returns-in-Err : goal.returns-in-Err
 returns-in-Err g c =
-    let d : Drive = record { disk = g.D.Disk.state c.args.disk.now; hook = g.H.Hook.state c.args.hook.now; key = c.args.key.now; rules = c.args.rules.now } in
-    let entries = c.args.gpt.now.table.entries in
-    let ranks = c.args.ranks.now in
-    let place : ℕ = c.loop-place.place in
-    let k : ℕ = entry_in_order ranks place in
-    let disk' = g.D.Disk.state c.loop-place.disk in
-    let hook' = g.H.Hook.state c.loop-place.hook in
-    let disk'' = g.D.Disk.state c.examine_kernel.new.disk in
-    let hook'' = g.H.Hook.state c.examine_kernel.new.hook in
-    let body = c.examine_kernel.new.body in
     let gone = c.loop-place.invariant.gone in
-    let after = kernel_after_call (sum_by (most_sectors_of_rank d entries) (take place ranks)) d (first_in entries k) (sectors_in entries k) c.partition_of-first.result.0 c.partition_of-first.result.1
-    disk' disk'' hook' hook'' body (Err c.in-Err.failure) c.examine_kernel.result gone.looks gone.asked c.examine_kernel.ensures.meets c.partition_of-first.ensures.first c.partition_of-first.ensures.sectors
-    c.in-Err.is in
-    record { meets = first_failed d entries ranks place disk' disk'' hook' hook'' body c.in-Err.failure (ordered entries ranks c.requires.ranked) c.loop-place-test.true gone after }
+    let after = kernel_after_call _ _ _ _ _ _ _ _ _ _ c.examine_kernel.new.body (Err c.in-Err.failure) c.examine_kernel.result gone.looks gone.asked c.examine_kernel.ensures.meets
+    c.partition_of-first.ensures.first c.partition_of-first.ensures.sectors c.in-Err.is in
+    record { meets = first_failed _ _ _ c.loop-place.place _ _ _ _ _ c.in-Err.failure (ordered _ _ c.requires.ranked) c.loop-place-test.true gone after }
 
 pub returns : goal.returns
 returns g c =

@@ -1,9 +1,6 @@
 -- Each head is examined as the drive was before, and what was found of it is noted.
-use Rattle.std.proofs.Common.{ℕ, ◌*◌, Ok, Err, arith}
-use Rattle.gpt_core.specs.Entries.{first_in}
+use Rattle.std.proofs.Common.{Ok, Err, arith}
 use Rattle.walk_core.specs.Kernels.{Drive}
-use Rattle.walk_core.specs.Chosen.{sectors_in}
-use Rattle.walk_core.specs.Steps.{entry_in_order}
 use Rattle.walk_core.proofs.SameDrives.{head_after_call}
 use Rattle.walk_core.proofs.LaterSteps.{known_none, known_more, later_known, later_failed}
 use Rattle.walk_core.proofs.later.count_later.Goals as goal
@@ -15,35 +12,17 @@ loop-place-init g c =
 
 pub loop-place-preserved : goal.loop-place-preserved
 loop-place-preserved g c =
-    let d : Drive = record { disk = g.D.Disk.state c.args.disk.now; hook = g.H.Hook.state c.args.hook.now; key = c.args.key.now; rules = c.args.rules.now } in
-    let entries = c.args.gpt.now.table.entries in
-    let ranks = c.args.ranks.now in
-    let place : ℕ = c.loop-place.place in
-    let k : ℕ = entry_in_order ranks place in
-    let disk' = g.D.Disk.state c.loop-place.disk in
-    let hook' = g.H.Hook.state c.loop-place.hook in
-    let disk'' = g.D.Disk.state c.examine_head.new.disk in
-    let hook'' = g.H.Hook.state c.examine_head.new.hook in
     let known = c.loop-place.invariant.known in
-    let after = head_after_call (128 * place) d (first_in entries k) (sectors_in entries k) c.partition_of-first.result.0 c.partition_of-first.result.1 disk' disk'' hook' hook''
-    c.examine_head.new.vblock (Ok c.in-Ok.head) c.examine_head.result known.looks known.asked c.examine_head.ensures.meets c.partition_of-first.ensures.first c.partition_of-first.ensures.sectors c.in-Ok.is in
-    record { known = known_more d entries ranks c.args.version place disk' disk'' hook' hook'' c.loop-place.later c.note.new.self c.in-Ok.head known after c.note.ensures }
+    let after = head_after_call _ _ _ _ _ _ _ _ _ _ _ (Ok c.in-Ok.head) c.examine_head.result known.looks known.asked c.examine_head.ensures.meets c.partition_of-first.ensures.first
+    c.partition_of-first.ensures.sectors c.in-Ok.is in
+    record { known = known_more _ _ _ _ c.loop-place.place _ _ _ _ _ _ c.in-Ok.head known after c.note.ensures }
 
 pub returns-in-Err : goal.returns-in-Err
 returns-in-Err g c =
-    let d : Drive = record { disk = g.D.Disk.state c.args.disk.now; hook = g.H.Hook.state c.args.hook.now; key = c.args.key.now; rules = c.args.rules.now } in
-    let entries = c.args.gpt.now.table.entries in
-    let ranks = c.args.ranks.now in
-    let place : ℕ = c.loop-place.place in
-    let k : ℕ = entry_in_order ranks place in
-    let disk' = g.D.Disk.state c.loop-place.disk in
-    let hook' = g.H.Hook.state c.loop-place.hook in
-    let disk'' = g.D.Disk.state c.examine_head.new.disk in
-    let hook'' = g.H.Hook.state c.examine_head.new.hook in
     let known = c.loop-place.invariant.known in
-    let after = head_after_call (128 * place) d (first_in entries k) (sectors_in entries k) c.partition_of-first.result.0 c.partition_of-first.result.1 disk' disk'' hook' hook''
-    c.examine_head.new.vblock (Err c.in-Err.failure) c.examine_head.result known.looks known.asked c.examine_head.ensures.meets c.partition_of-first.ensures.first c.partition_of-first.ensures.sectors c.in-Err.is in
-    record { meets = later_failed d entries ranks c.args.version place (first_in entries k) (sectors_in entries k) disk'' hook'' c.in-Err.failure c.loop-place-test.true after }
+    let after = head_after_call _ _ _ _ _ _ _ _ _ _ _ (Err c.in-Err.failure) c.examine_head.result known.looks known.asked c.examine_head.ensures.meets c.partition_of-first.ensures.first
+    c.partition_of-first.ensures.sectors c.in-Err.is in
+    record { meets = later_failed _ _ _ _ c.loop-place.place _ _ _ _ c.in-Err.failure c.loop-place-test.true after }
 
 pub returns : goal.returns
 returns g c =

@@ -53,7 +53,7 @@ use Rattle.boot_core.specs.Drives.{drive_of, rules_of, recovery_of, disk_on, dri
 use Rattle.boot_core.specs.Plan.{first_changes, later_changes, changes_of, slot_plan_of, drive_plan_of, selected_answer, recovery_plan_of, enabling_plan_of, enables_dev, boot_mode_of, look_by, plan_in, plan_of, look_in, look_of}
 use Rattle.boot_core.specs.Hands.{Handed, handed_by, kernel_key, HoldsSlot, HoldsKernel, HoldsHand, HoldsOutcome}
 use Rattle.boot_core.specs.Steps.{SameDrives, IsTold, Looks, ReadsBoard, IsFromDisk, is_same_drive, most_read, ReadsAtMost, PlansBoot, to_of, WritesTable, Finishes}
-use Rattle.boot_core.specs.Boots.{BootPlan, boot_plan_of, bad_flash_plan, boot_plan_by, boot_plan, look_found, AtFault, NeverFall, HandsOver, Boots}
+use Rattle.boot_core.specs.Boots.{BootPlan, boot_plan_of, bad_flash_plan, boot_plan_by, boot_plan, look_found, AtFault, NeverFall, HandsOver, GoesOn, Boots}
 use Rattle.boot_core.proofs.Looking.{looks_then, looks_err}
 use Rattle.boot_core.proofs.Carried.{carried_then, carried_as, carried_cut}
 use Rattle.boot_core.proofs.Making.{looks_carry, keeps_same}
@@ -157,8 +157,7 @@ boots_looked sw old new handed fault settled looks none reads =
       made = tt;
       locks = tt;
       fault = at_fault plan fault old new carried.frame carried.ends (at_most_one plan.changes (few_planned sw old));
-      hands = λ told. tt;
-      agree = λ told. tt;
+      goes_on = λ told. tt;
       versions = λ told. never_same old.tpm.spaces new.tpm.spaces looks.spaces;
       reads = reads;
     }
@@ -189,8 +188,7 @@ boots_bad_flash sw old new handed fault settled read =
       made = carried.made;
       locks = read.unlocked;
       fault = tt;
-      hands = λ told. tt;
-      agree = λ told from. absurd from;
+      goes_on = λ told. record { hands = tt; agree = λ from. absurd from };
       versions = λ told. never_same old.tpm.spaces new.tpm.spaces read.looks.spaces;
       reads = λ told. no_reads (look_found sw old (found_of old)) old new read.drives;
     }
@@ -405,6 +403,11 @@ table_planned : (wanted : Bool) (room planned : PartitionTable) → (wanted ≡ 
 table_planned true room planned same = same refl
 table_planned false room planned same = refl
 
+goes_on_answer : (sw : Switches) (old new : World) (handed : Handed) (answer : Result Outcome Fault) → IfOk answer (HandsOver sw old handed)
+    → IfOk answer (λ outcome. IsFromDisk outcome → IsTrue (copies_agree new.disk.medium)) → IfOk answer (GoesOn sw old new handed)
+goes_on_answer sw old new handed (Ok outcome) hands agree = record { hands = hands; agree = agree }
+goes_on_answer sw old new handed (Err fault) hands agree = tt
+
 pub boots_planned : (sw : Switches) (old mid last new : World) (room : Room) (found : Found) (plan : Plan) (answer : Result Outcome Fault) → IsSettled old → ReadsBoard old mid (Ok (Ok found)) → PlansBoot sw found mid last room (Ok plan)
     → ((table : PartitionTable) → (plan.table ≡ true → table ≡ room.gpt.table) → Finishes table found plan last new answer) → Boots sw old new (handed_by room) answer
 unfolding boot_plan
@@ -436,8 +439,10 @@ boots_planned sw old mid last new room found plan answer settled read plans fini
       made = carried.made;
       locks = h.locks;
       fault = at_faults whole old new answer (few_listed plan) carried;
-      hands = λ told. hands_answer sw old mid found (handed_by room) plan.outcome answer same (sym (read.whole told.flash told.tpm)) (plans.holds (again told)) h.outcome;
-      agree = λ told. agree_answer plan table mid last new answer plans.looks.same_disk (again told).disk h.makes.drives (plans.agree (again told)) h.outcome;
+      goes_on = λ told.
+          goes_on_answer sw old new (handed_by room) answer
+          (hands_answer sw old mid found (handed_by room) plan.outcome answer same (sym (read.whole told.flash told.tpm)) (plans.holds (again told)) h.outcome)
+          (agree_answer plan table mid last new answer plans.looks.same_disk (again told).disk h.makes.drives (plans.agree (again told)) h.outcome);
       versions = λ told. never_falls found plan table old new answer (keeps told) told carried;
       reads = λ told.
           reads_last (look_found sw old (found_of old)) plan.table table old last new answer

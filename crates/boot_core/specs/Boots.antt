@@ -190,6 +190,11 @@ abbrev pub HandsOver : Switches → World → Handed → Outcome → Type 0
 HandsOver sw w handed (outcome.HandOver hand) = Hands sw w handed hand
 HandsOver sw w handed other = Unit {0}
 
+-- Where the boot goes on, what is handed over has its chain, and from the disk both copies of its table agree then.
+pub record GoesOn (sw : Switches) (old new : World) (handed : Handed) (outcome : Outcome) : Type 0 where
+  pub hands : HandsOver sw old handed outcome
+  pub agree : IsFromDisk outcome → IsTrue (copies_agree new.disk.medium)
+
 -- ---- a boot
 
 -- One boot over a board. `handed` is what the room hands out after it.
@@ -207,9 +212,7 @@ pub record Boots (sw : Switches) (old new : World) (handed : Handed) (answer : R
   pub made : OnOk answer (IsMade plan.to plan.changes old new)
   pub locks : IfOk answer (λ outcome. new.tpm.locks ≡ locks_at outcome)
   pub fault : IfErr answer (λ fault. AtFault plan fault old new)
-  -- where the boot goes on, what is handed over has its chain, and from the disk both copies of its table agree then
-  pub hands : IsTold old → IfOk answer (HandsOver sw old handed)
-  pub agree : IsTold old → IfOk answer (λ outcome. IsFromDisk outcome → IsTrue (copies_agree new.disk.medium))
+  pub goes_on : IsTold old → IfOk answer (GoesOn sw old new handed)
   -- at every answer
   pub versions : IsTrue old.tpm.told → NeverFall old.tpm.spaces new.tpm.spaces
   pub reads : IsTold old → ReadsAtMost (look_found sw old (found_of old)) old new

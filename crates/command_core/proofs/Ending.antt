@@ -105,7 +105,7 @@ handed_at sw old new o b told = record {
   outcome = o;
   planned = planned_at sw old new o b told;
   handed = b.handed;
-  hands = hands_same sw (record old { map_at = b.at }) (record old { flash = b.flash; map_at = b.at }) b.handed o refl refl (one_board sw old new o b) (b.boots.hands (told_on sw old new o b told));
+  hands = hands_same sw (record old { map_at = b.at }) (record old { flash = b.flash; map_at = b.at }) b.handed o refl refl (one_board sw old new o b) (b.boots.goes_on (told_on sw old new o b told)).hands;
   locks = b.boots.locks;
 }
 

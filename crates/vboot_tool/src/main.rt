@@ -3,8 +3,10 @@
 //! `opening` opens the board over these images. What a command does to it and prints is `command_core`'s.
 #![tactic(auto)]
 
-ghost use Rattle.std.specs.Prelude.{map, string_bytes};
-ghost use Rattle.vboot_tool.specs.Starting.{StartsBy};
+ghost use Rattle.std.specs.Prelude.{◌≡◌, drop, map, string_bytes, IfOk};
+ghost use Rattle.std.specs.Vec.Iter.{into_iter_items};
+ghost use Rattle.std.specs.Process.{exit_status};
+ghost use Rattle.vboot_tool.specs.Starting.{StartsBy, EndsBy};
 
 mod opening;
 
@@ -12,17 +14,34 @@ use board_core::Sink;
 use board_file::{OpenFault, StdSink};
 use command_core::{Answer, Status, command_of, print, run_command};
 use opening::open_board;
+use std::alloc::{AllocError, Global};
+use std::env::Args;
+use std::fs::File;
 use std::process::ExitCode;
-use std::rt::{Env, Files};
+use std::rt::Files;
 use std::{env, io};
 
-// The words after the program's name.
-fn words_of<R: Env + AllocGlobal>(rt: &R) -> io::Result<Vec<String>> {
-    let mut words = Vec::new(rt.alloc());
-    for word in env::args(rt)?.skip(1) {
+// The words after the program's name, of the words of a process.
+fn words_after_name(alloc: Global, process: Args) -> Result<Vec<String>, AllocError>
+    ensures { IfOk result (λ words. words.items ≡ drop 1 (into_iter_items process)) }
+{
+    let mut words = Vec::new(alloc);
+    let mut rest = process;
+    let _name = rest.next();
+    for word in rest {
         words.push(word)?;
     }
     Ok(words)
+}
+
+// A standard stream that was closed leaves its number to the next file that is opened, and what is printed would go into an image.
+// So each of the three is taken by a file that takes nothing, where it is free.
+fn hold_streams<R: Files>(rt: &R) -> [Option<R::File>; 3] {
+    [
+        File::open(rt, "/dev/null").ok(),
+        File::open(rt, "/dev/null").ok(),
+        File::open(rt, "/dev/null").ok(),
+    ]
 }
 
 // Runs the command of these words over the files of the current folder. Words that are refused open none.
@@ -40,18 +59,30 @@ fn run_here<R: Files + AllocGlobal, O: Sink>(rt: &R, words: &[String], out: &mut
     }
 }
 
-fn start<R: Env + Files + AllocGlobal, O: Sink>(rt: &R, out: &mut O) -> Status {
-    let words = match words_of(rt) {
-        Ok(words) => words,
-        Err(e) if e.kind() == io::ErrorKind::OutOfMemory => {
-            return print(out, &Answer::Unopened(OpenFault::Memory));
-        }
-        Err(_) => return print(out, &Answer::Usage),
+// Runs the words of a process, of which the first is the program's name, and ends with the status of the command.
+fn run_process<R: Files + AllocGlobal, O: Sink>(rt: &R, process: Args, out: &mut O) -> ExitCode
+    ensures { EndsBy (map string_bytes (drop 1 (into_iter_items process))) (O.state out.old) (O.state out.new) (exit_status result) }
+{
+    let Ok(words) = words_after_name(rt.alloc(), process) else {
+        return ExitCode::from(print(out, &Answer::Unopened(OpenFault::Memory)).code);
     };
-    run_here(rt, &words, out)
+    ExitCode::from(run_here(rt, &words, out).code)
+}
+
+// The words of the process cannot be had: one is no text, or memory is wanting.
+fn refuse<O: Sink>(error: &io::Error, out: &mut O) -> ExitCode {
+    let answer = match error.kind() {
+        io::ErrorKind::OutOfMemory => Answer::Unopened(OpenFault::Memory),
+        _ => Answer::Usage,
+    };
+    ExitCode::from(print(out, &answer).code)
 }
 
 fn main(rt: HostRuntime) -> ExitCode {
+    let _held = hold_streams(&rt);
     let mut out = StdSink::new(io::writer(&rt));
-    ExitCode::from(start(&rt, &mut out).code)
+    match env::args(&rt) {
+        Ok(process) => run_process(&rt, process, &mut out),
+        Err(error) => refuse(&error, &mut out),
+    }
 }

@@ -1,5 +1,5 @@
 -- What the calls that read and check the body of a kernel do.
--- Source: `vb2_load_kernel_body` and `vb2_verify_data` in `vb2_load_partition` of vboot_reference
+-- Source: the reads of the body and `vb2_verify_data` in `vb2_load_partition` of vboot_reference
 -- (firmware/2lib/2load_kernel.c).
 use Rattle.std.specs.Prelude.{◌≡◌, ℕ, ◌+◌, ◌-◌, ◌*◌, ◌/◌, ◌≤◌, min, Bool, false, IsTrue, List, [], ◌++◌, length, take, drop, Option, IfNone, Result, is_err, IfOk, OnOk, nat_lt, if◌then◌else◌}
 use Rattle.wire_core.specs.FirstFault.{first_fault}

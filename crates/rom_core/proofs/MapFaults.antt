@@ -1,6 +1,6 @@
 -- A map whose six areas are there: what its table finds, and what its areas fit where it finds nothing.
 use Rattle.std.proofs.Common.{◌≡◌, ◌⊎◌, inl, inr, ℕ, zero, suc, ◌+◌, ◌*◌, ◌≤◌, false, Bool, cond, List, length, drop, refl, ap, arith}
-use Rattle.std.specs.Prelude.{Some, None, nat_lt, ◌&&◌}
+use Rattle.std.specs.Prelude.{Some, None, nat_lt}
 use Rattle.std.proofs.lemmas.Bool.{or_parts, and_cases, eqb-true, eqb-false, ltb-false, not-false}
 use Rattle.wire_core.specs.FirstFault.{first_fault}
 use Rattle.rom_core.specs.declared.area.Area.{Area}

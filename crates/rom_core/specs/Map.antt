@@ -1,7 +1,7 @@
 -- The flash map: where it stands, the areas that its rows name, and its fault table.
 -- Source: `struct fmap` and `struct fmap_area` of the flashmap library (lib/fmap.h). The places at which a map is looked for,
 -- the choice of the six areas, all limits and the order of the lines are this project's own.
-use Rattle.std.specs.Prelude.{ℕ, zero, suc, ◌+◌, ◌-◌, ◌*◌, ◌/◌, ◌%◌, Bool, false, not, ◌&&◌, ◌||◌, nat_lt, nat_le, nat_eq, ◌==◌, List, [], ◌∷◌, length, map, take, drop, codes, slice_index, Option, Some, is_none, option_map, option_and_then, find, bytes_eq}
+use Rattle.std.specs.Prelude.{ℕ, zero, suc, ◌+◌, ◌*◌, ◌/◌, ◌%◌, Bool, false, not, ◌&&◌, ◌||◌, nat_lt, nat_le, nat_eq, ◌==◌, List, [], ◌∷◌, length, map, take, drop, codes, slice_index, Option, Some, is_none, option_map, option_and_then, find, bytes_eq}
 use Rattle.std.specs.List.{list_any, starts_with, before_first}
 use Rattle.std.specs.Option.{option_map_or}
 use Rattle.wire_core.specs.Fields.{number_at}

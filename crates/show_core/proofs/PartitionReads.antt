@@ -1,22 +1,15 @@
 -- Reading a partition: its kernel, its place, and whether there is one.
-use Rattle.std.proofs.Common.{◌≡◌, ◌∙◌, ℕ, ◌+◌, ◌-◌, ◌*◌, ◌<◌, ◌≤◌, length, refl, ap, sym, subst, arith, Bool, true, false, List, Option, Some, None, Result, Ok, Err, OnOk, IsTrue, is_err}
-use Rattle.std.specs.Prelude.{nat_le, ◌&&◌, not, replicate, nat_eq, if◌then◌else◌}
-use Rattle.std.specs.Cmp.Lexicographic.{pointwise}
-use Rattle.std.proofs.lemmas.Bool.{false≢true, and_parts, and_from, and_left, and_right, le-leb, lt-leb, leb-true, cond-true, cond-false}
-use Rattle.board_core.specs.declared.device.Failed.{Failed}
+use Rattle.std.proofs.Common.{◌≡◌, ◌∙◌, ℕ, ◌+◌, ◌-◌, ◌*◌, ◌<◌, ◌≤◌, length, refl, ap, sym, arith, true, false, List, Option, Some, None, Result, Ok, Err}
+use Rattle.std.specs.Prelude.{nat_le, ◌&&◌, if◌then◌else◌}
+use Rattle.std.proofs.lemmas.Bool.{and_parts, and_from, and_left, and_right, le-leb, lt-leb, leb-true, cond-true, cond-false}
 use Rattle.board_core.specs.Flash.{range}
-use Rattle.board_core.specs.Disk.{DiskMedium, DiskState, ReadsDisk}
-use Rattle.board_core.proofs.FuseDiskLemmas.{settled_writes}
+use Rattle.board_core.specs.Disk.{DiskMedium}
 use Rattle.gpt_core.specs.declared.entry.Entry.{Entry}
 use Rattle.gpt_core.specs.declared.found.Found.{Found}
 use Rattle.gpt_core.specs.declared.found.Found.TheVariants as found
-use Rattle.gpt_core.specs.declared.side.Side.TheVariants.{Backup}
-use Rattle.gpt_core.specs.Entries.{is_used, IsUsed, first_in, last_in, entry_in}
+use Rattle.gpt_core.specs.Entries.{is_used, first_in, last_in, entry_in}
 use Rattle.gpt_core.specs.Format.{PartitionTable, IsValidTable}
-use Rattle.gpt_core.specs.Reads.{KeepsDisk}
-use Rattle.gpt_core.specs.Room.{RoomView, ReadsTable, IsFoundOn}
-use Rattle.gpt_core.specs.Tables.{table_in, table_on, copy_table, or_else}
-use Rattle.gpt_core.proofs.SettledReads.{keeps_read}
+use Rattle.gpt_core.specs.Room.{IsFoundOn}
 use Rattle.gpt_core.proofs.Sources.{IsThere}
 use Rattle.gpt_core.proofs.FoundTables.{table_there, none_there, used_says}
 use Rattle.gpt_core.proofs.UsedEntries.{used_between, LiesBetween}

@@ -1,6 +1,5 @@
 -- What showing a partition of a drive does.
 use Rattle.std.specs.Prelude.{◌≡◌, ℕ, ◌+◌, ◌-◌, ◌≤◌, ◌&&◌, nat_le, if◌then◌else◌, Bool, true, false, IsTrue, List, ◌++◌, length, take, Option, Some, None, Result, Ok, Err, is_err, IfOk}
-use Rattle.board_core.specs.declared.device.Failed.{Failed}
 use Rattle.board_core.specs.Counters.{Observed, CountsFaults}
 use Rattle.board_core.specs.Disk.{DiskMedium, DiskState}
 use Rattle.board_core.specs.Streams.{StreamState}

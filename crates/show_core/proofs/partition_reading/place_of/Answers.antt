@@ -1,6 +1,6 @@
 -- The place of a used entry.
 use Rattle.std.proofs.Common.{◌≡◌, ◌-◌, refl, rules, true, arith}
-use Rattle.gpt_core.specs.Entries.{is_used, entry_in}
+use Rattle.gpt_core.specs.Entries.{is_used}
 use Rattle.show_core.proofs.PartitionReads.{used_place, used_bounds}
 use Rattle.show_core.proofs.partition_reading.place_of.Goals as goal
 

@@ -1,5 +1,5 @@
 -- The partition is too short, or the disk failed, or its kernel was read.
-use Rattle.std.proofs.Common.{◌≡◌, ◌∙◌, length, Ok, Err, Result, rules, arith, sym, ap, subst, is_err, Bool, true, false}
+use Rattle.std.proofs.Common.{◌≡◌, ◌∙◌, length, Ok, Err, Result, rules, arith, sym, ap, subst, is_err, Bool, false}
 use Rattle.board_core.specs.declared.device.Failed.{Failed}
 use Rattle.board_core.specs.Counters.{Observed}
 use Rattle.board_core.specs.Disk.{ReadsDisk}

@@ -1,12 +1,10 @@
 -- There is no table, or no such entry, or its partition was read.
-use Rattle.std.proofs.Common.{◌≡◌, ◌∙◌, ap, sym, subst, arith, Ok, Some, Option, Result, IsTrue, IfOk, rules}
+use Rattle.std.proofs.Common.{sym, subst, arith, Ok, IsTrue}
 use Rattle.board_core.specs.declared.device.Failed.{Failed}
 use Rattle.board_core.proofs.Stops.{observed_then}
 use Rattle.gpt_core.specs.declared.found.Found.{Found}
 use Rattle.gpt_core.specs.Room.{ReadsTable}
 use Rattle.gpt_core.proofs.Sources.{is_there}
-use Rattle.show_core.specs.declared.facts.PartitionFacts.{PartitionFacts}
-use Rattle.show_core.specs.Partition.{ReadsKernel}
 use Rattle.gpt_core.proofs.FoundTables.{keeps_then}
 use Rattle.show_core.proofs.PartitionReads.{no_table, no_entry, an_entry}
 use Rattle.show_core.proofs.partition_reading.read_partition.Goals as goal

@@ -1,5 +1,5 @@
 -- The second slot could not be read, or all three parts were.
-use Rattle.std.proofs.Common.{◌≡◌, ◌∙◌, ap, sym, subst, IsTrue}
+use Rattle.std.proofs.Common.{◌∙◌, ap, sym, subst, IsTrue}
 use Rattle.std.proofs.lemmas.Result.{err_from_is_err_and}
 use Rattle.board_core.specs.Flash.{FlashMedium}
 use Rattle.board_core.proofs.Stops.{observed_then}

@@ -1,4 +1,4 @@
-use Rattle.std.proofs.Common.{◌≡◌, ◌∙◌, ℕ, ap, drop}
+use Rattle.std.proofs.Common.{◌∙◌, ℕ, ap, drop}
 use Rattle.std.proofs.lemmas.List.{take_rest}
 use Rattle.key_core.specs.declared.keyblock.Seal.TheVariants.{Signature}
 use Rattle.key_core.specs.Keyblocks.{Keyblock, keyblock_in}

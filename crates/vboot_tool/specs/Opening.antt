@@ -1,5 +1,5 @@
 -- The board as it is opened.
-use Rattle.std.specs.Prelude.{◌≡◌, ℕ}
+use Rattle.std.specs.Prelude.{◌≡◌}
 use Rattle.board_core.specs.declared.disk.Disk.{Ghosts}
 use Rattle.board_core.specs.declared.platform.Platform.{Platform}
 use Rattle.board_core.specs.FuseDisk.{fuse_disk_state}

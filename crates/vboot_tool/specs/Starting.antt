@@ -21,3 +21,8 @@ StartsBy words old new status = (IsCommand words × (status.code ≡ 1 → ⊥))
 abbrev pub EndsBy : List (List ℕ) → StreamState → StreamState → ℕ → Type 0
 EndsBy words old new code =
     (status : Status) × (code ≡ status.code) × (StartsBy words old new status ⊎ Prints (answer.Unopened Memory) old new status)
+
+-- no word could be had: that is told as words that are no command, or as want of memory
+abbrev pub LacksWords : StreamState → StreamState → ℕ → Type 0
+LacksWords old new code =
+    (status : Status) × (code ≡ status.code) × (Prints answer.Usage old new status ⊎ Prints (answer.Unopened Memory) old new status)

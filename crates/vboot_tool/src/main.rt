@@ -6,7 +6,7 @@
 ghost use Rattle.std.specs.Prelude.{◌≡◌, drop, map, string_bytes, IfOk};
 ghost use Rattle.std.specs.Vec.Iter.{into_iter_items};
 ghost use Rattle.std.specs.Process.{exit_status};
-ghost use Rattle.vboot_tool.specs.Starting.{StartsBy, EndsBy};
+ghost use Rattle.vboot_tool.specs.Starting.{StartsBy, EndsBy, LacksWords};
 
 mod opening;
 
@@ -69,13 +69,14 @@ fn run_process<R: Files + AllocGlobal, O: Sink>(rt: &R, process: Args, out: &mut
     ExitCode::from(run_here(rt, &words, out).code)
 }
 
-// The words of the process cannot be had: one is no text, or memory is wanting.
-fn refuse<O: Sink>(error: &io::Error, out: &mut O) -> ExitCode {
-    let answer = match error.kind() {
-        io::ErrorKind::OutOfMemory => Answer::Unopened(OpenFault::Memory),
-        _ => Answer::Usage,
-    };
-    ExitCode::from(print(out, &answer).code)
+// The words of the process cannot be had: one is no text, or memory is wanting. Nothing is run.
+fn refuse<O: Sink>(error: &io::Error, out: &mut O) -> ExitCode
+    ensures { LacksWords (O.state out.old) (O.state out.new) (exit_status result) }
+{
+    if error.kind() == io::ErrorKind::OutOfMemory {
+        return ExitCode::from(print(out, &Answer::Unopened(OpenFault::Memory)).code);
+    }
+    ExitCode::from(print(out, &Answer::Usage).code)
 }
 
 fn main(rt: HostRuntime) -> ExitCode {

@@ -12,5 +12,6 @@ pub mod FuseTpm
 pub mod FuseDisk
 pub mod FuseDiskParts
 pub mod Fault
+pub mod Drive
 pub mod World
 pub mod OrderedWrites

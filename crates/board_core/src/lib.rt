@@ -29,7 +29,7 @@ mod torn;
 mod tpm;
 
 pub use counters::{Counters, FuseState, Turn, raise};
-pub use device::{Device, Failed, Fault, Space};
+pub use device::{Device, Drive, Failed, Fault, Space};
 pub use disk::Disk;
 pub use flash::{Flash, make_erased_page};
 pub use fuse::Fuse;

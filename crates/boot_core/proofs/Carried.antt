@@ -13,13 +13,13 @@ use Rattle.board_core.specs.Counters.{Moved, MadeStep, CountsFaults, raised}
 use Rattle.board_core.specs.Flash.{FlashMedium}
 use Rattle.board_core.specs.Disk.{DiskMedium}
 use Rattle.board_core.specs.Tpm.{Spaces}
-use Rattle.board_core.specs.World.{World}
+use Rattle.board_core.specs.World.{World, counters_on}
 use Rattle.board_core.proofs.Stops.{step_then, step_cut, step_alive, rose_later}
 use Rattle.nvstore_core.specs.declared.state.NvState.{NvState}
 use Rattle.nvstore_core.specs.Pages.{record_in}
 use Rattle.gpt_core.specs.Format.{PartitionTable}
 use Rattle.gpt_core.specs.Tables.{table_in}
-use Rattle.boot_core.specs.Changes.{Change, Firmware, Record, Table, Kernel, flash_with, spaces_with, disk_with, record_with, table_with, device_of, counters_on, state_with, calls_on}
+use Rattle.boot_core.specs.Changes.{Change, Firmware, Record, Table, Kernel, flash_with, spaces_with, disk_with, record_with, table_with, device_of, state_with, calls_on}
 use Rattle.boot_core.specs.Carries.{Targets, CountsBoard, Frame, MadeFlash, MadeDisk, IsMade, EndsIn, EndsAt, CarriesOut}
 use Rattle.boot_core.proofs.Frames.{frame_then}
 

@@ -14,7 +14,7 @@ use Rattle.board_core.specs.Fault.{is_fault_of}
 use Rattle.board_core.specs.Flash.{FlashMedium, FlashState, range}
 use Rattle.board_core.specs.Disk.{DiskMedium}
 use Rattle.board_core.specs.Tpm.{TpmState}
-use Rattle.board_core.specs.World.{World}
+use Rattle.board_core.specs.World.{World, counters_on}
 use Rattle.board_core.proofs.Stops.{made_none, made_only_observed, step_cut, step_whole}
 use Rattle.board_core.proofs.TornRange.{grown_same}
 use Rattle.nvstore_core.specs.declared.state.NvState.{NvState}
@@ -22,7 +22,7 @@ use Rattle.nvstore_core.specs.Pages.{IsStateOf, bytes_with_record, calls_to_save
 use Rattle.nvstore_core.specs.Saving.{Saves, KeepsWritten}
 use Rattle.gpt_core.specs.Format.{PartitionTable}
 use Rattle.gpt_core.specs.Tables.{table_in}
-use Rattle.boot_core.specs.Changes.{Change, Record, counters_on}
+use Rattle.boot_core.specs.Changes.{Change, Record}
 use Rattle.boot_core.specs.Carries.{Targets, IsSettled, CountsBoard, SameDisk, FrameFlash, Frame, MadeFlash, MadeDisk, IsMade, CarriesOut}
 use Rattle.boot_core.specs.Steps.{Looks}
 use Rattle.boot_core.proofs.Frames.{frame_flash_of, frame_disk_of, frame_stick_of, frame_disk_looked, frame_stick_looked}

@@ -22,12 +22,12 @@ use Rattle.boot_core.proofs.Frames.{frame_flash_of, frame_stick_of}
 use Rattle.boot_core.proofs.Making.{uncalled, no_faults, died_in, frame_same, same_made}
 
 -- only the disk is called
-abbrev with_disk : World → DiskState → World
-with_disk w disk = record w { disk = disk }
+abbrev with_drive : World → DiskState → World
+with_drive w disk = record w { disk = disk }
 
 counts_disk : {T : Type 0} (calls : Device → ℕ) (w : World) (disk : DiskState) (result : Result T Fault) → calls device.Flash ≡ 0 → calls device.Tpm ≡ 0 → calls device.Stick ≡ 0
     → is_fault_of device.Flash result ≡ false → is_fault_of device.Tpm result ≡ false → is_fault_of device.Stick result ≡ false → is_fault_of device.Hook result ≡ false
-    → MadeStep w.disk.counters disk.counters (calls device.Disk) (is_err result) (is_fault_of device.Disk result) → CountsBoard calls w (with_disk w disk) result
+    → MadeStep w.disk.counters disk.counters (calls device.Disk) (is_err result) (is_fault_of device.Disk result) → CountsBoard calls w (with_drive w disk) result
 counts_disk calls w disk result flash tpm stick no_flash no_tpm no_stick no_hook made = record {
   flash = uncalled _ _ (calls device.Flash) _ _ refl flash no_flash;
   tpm = uncalled _ _ (calls device.Tpm) _ _ refl tpm no_tpm;
@@ -37,7 +37,7 @@ counts_disk calls w disk result flash tpm stick no_flash no_tpm no_stick no_hook
 }
 
 frame_committed : {E : Type 0} (area : ℕ) (source : Option Side) (table : PartitionTable) (w : World) (disk : DiskState) (result : Result Unit E) → IsSettled w → Commits source table w.disk disk result
-    → Frame area w (with_disk w disk)
+    → Frame area w (with_drive w disk)
 frame_committed area source table w disk result settled h = record {
   flash = frame_flash_of area _ _ refl;
   tpm_told = refl;
@@ -49,7 +49,7 @@ frame_committed area source table w disk result settled h = record {
 }
 
 pub table_made : {T E : Type 0} (base area : ℕ) (source : Option Side) (table : PartitionTable) (state : NvState) (w : World) (disk : DiskState) (x : T) → IsSettled w
-    → Commits {E = E} source table w.disk disk (Ok tt) → CarriesOut base (record { area = area; table = table }) state (Table ∷ []) w (with_disk w disk) (Ok x)
+    → Commits {E = E} source table w.disk disk (Ok tt) → CarriesOut base (record { area = area; table = table }) state (Table ∷ []) w (with_drive w disk) (Ok x)
 table_made base area source table state w disk x settled h = record {
   counts = counts_disk _ w disk (Ok x) refl refl refl refl refl refl refl (step_whole _ _ 6 h.writes.counters);
   frame = frame_committed area source table w disk (Ok tt) settled h;
@@ -72,7 +72,7 @@ disk_fault done = record { device = device.Disk; done = done }
 
 pub table_failed : {T E : Type 0} (base area : ℕ) (source : Option Side) (table : PartitionTable) (state : NvState) (w : World) (disk : DiskState) (e : E) → IsSettled w
     → ((left keep : ℕ) → w.disk.counters.stop ≡ Armed left keep → 1 ≤ left) → Commits {E = E} source table w.disk disk (Err e)
-    → CarriesOut {T = T} base (record { area = area; table = table }) state (Table ∷ []) w (with_disk w disk) (Err (disk_fault base))
+    → CarriesOut {T = T} base (record { area = area; table = table }) state (Table ∷ []) w (with_drive w disk) (Err (disk_fault base))
 table_failed base area source table state w disk e settled armed h = record {
   counts = counts_disk _ w disk (Err (disk_fault base)) refl refl refl refl refl refl refl (step_cut _ _ 6 6 true (omega arith) h.writes.counters);
   frame = frame_committed area source table w disk (Err e) settled h;

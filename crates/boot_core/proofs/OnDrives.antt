@@ -4,7 +4,7 @@ use Rattle.std.specs.Prelude.{IfOk, IfErr}
 use Rattle.board_core.specs.declared.device.Fault.{Fault}
 use Rattle.board_core.specs.Disk.{DiskMedium, DiskState}
 use Rattle.board_core.specs.Hook.{HookState}
-use Rattle.board_core.specs.World.{World}
+use Rattle.board_core.specs.World.{World, with_drive}
 use Rattle.key_core.specs.declared.key.PackedKey.{PackedKey}
 use Rattle.kernel_core.specs.declared.rules.KernelRules.{KernelRules}
 use Rattle.gpt_core.specs.Reads.{KeepsDisk}
@@ -14,10 +14,10 @@ use Rattle.chain_core.specs.declared.fault.Failure.TheVariants.{Store, Hook}
 use Rattle.walk_core.specs.Seen.{Sees}
 use Rattle.walk_core.specs.declared.drive.Seen.{Seen}
 use Rattle.boot_core.specs.Carries.{SameDisk}
-use Rattle.boot_core.specs.declared.drives.Drive.{Drive}
-use Rattle.boot_core.specs.declared.drives.Drive.TheVariants.{Disk, Stick}
+use Rattle.board_core.specs.declared.device.Drive.{Drive}
+use Rattle.board_core.specs.declared.device.Drive.TheVariants.{Disk, Stick}
 use Rattle.boot_core.specs.Steps.{Looks, LooksAtDrive}
-use Rattle.boot_core.specs.Drives.{drive_asked, with_disk, fault_on}
+use Rattle.boot_core.specs.Drives.{drive_asked, fault_on}
 use Rattle.boot_core.proofs.Looking.{observed_none, same_disk, same_tpm, looks_by}
 
 -- the answer of a board
@@ -27,7 +27,7 @@ said drive (Err failure) = Err (fault_on drive failure)
 
 -- the board after the look
 abbrev pub looked : Drive → World → DiskState → HookState → World
-looked drive w disk hook = with_disk drive disk (record w { hook = hook })
+looked drive w disk hook = with_drive drive disk (record w { hook = hook })
 
 only_read : (a b : DiskMedium) → KeepsDisk a b → SameDisk a b
 only_read a b h = record { sectors = h.sectors; told = h.told; none_pending = λ none. h.none_pending; bytes = h.bytes; torn = h.torn }

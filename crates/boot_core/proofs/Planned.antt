@@ -5,7 +5,7 @@ use Rattle.std.specs.Str.{bytes_eq}
 use Rattle.std.proofs.lemmas.Bool.{false≢true}
 use Rattle.board_core.specs.declared.device.Fault.{Fault}
 use Rattle.board_core.specs.Disk.{DiskState}
-use Rattle.board_core.specs.World.{World}
+use Rattle.board_core.specs.World.{World, drive_on}
 use Rattle.fwsel_core.specs.declared.boot_mode.Mode.{Mode}
 use Rattle.fwsel_core.specs.declared.boot_mode.Mode.TheVariants.{Manual, Broken}
 use Rattle.fwsel_core.specs.Mode.{mode_of}
@@ -29,30 +29,31 @@ use Rattle.walk_core.proofs.AskedAgain.{asked_by, SameRows, seen_again, sectors_
 use Rattle.walk_core.proofs.NoOlder.{no_older}
 use Rattle.boot_core.specs.declared.switches.Switches.{Switches}
 use Rattle.boot_core.specs.declared.found.Found.{Found}
-use Rattle.boot_core.specs.declared.drives.Drive.{Drive}
-use Rattle.boot_core.specs.declared.drives.Drive.TheVariants.{Disk, Stick}
+use Rattle.board_core.specs.declared.device.Drive.{Drive}
+use Rattle.board_core.specs.declared.device.Drive.TheVariants.{Disk, Stick}
 use Rattle.boot_core.specs.declared.outcome.Hand.{Hand}
 use Rattle.boot_core.specs.declared.plan.Plan.{Plan}
 use Rattle.boot_core.specs.declared.room.Room.{Room}
 use Rattle.boot_core.specs.Spaces.{RaisesVersion, RaisesKernel}
 use Rattle.boot_core.specs.Facts.{facts_of}
 use Rattle.boot_core.specs.Slots.{slot_asked, HoldsFirmware, taken_firmware}
-use Rattle.boot_core.specs.Drives.{drive_of, rules_of, recovery_of, disk_on, drive_asked, seen_on, Look, asked_at, table_by, table_after_look}
+use Rattle.boot_core.specs.Drives.{drive_of, rules_of, recovery_of, drive_asked, seen_on, Look, asked_at, table_by, table_after_look}
 use Rattle.boot_core.specs.Plan.{boot_mode_of, hand_of, stick_plan_of, disk_plan_of, drive_plan_of, slot_look, selected_answer, slot_plan_of, look_by, reboot_plan_of}
 use Rattle.boot_core.specs.Plan.{enables_dev, enabling_plan_of, recovery_hand_of, recovery_outcome, recovery_plan_of, recovery_look, manual_plan_of, missing_subcode}
 use Rattle.boot_core.specs.Plan.{screen_plan_of, plan_in, look_in, plan_of, look_of}
 use Rattle.boot_core.specs.Hands.{kernel_in, HoldsKernel, HoldsHand, HoldsOutcome, handed_by}
-use Rattle.boot_core.specs.Steps.{SameDrives, IsTold, Looks, LooksAtDrive, ChecksSlot, IsFromDisk, is_same_drive, ReadsAtMost, Plans, PlansSlot, PlansRecovery, PlansBoot}
+use Rattle.board_core.specs.Drive.{same_drive}
+use Rattle.boot_core.specs.Steps.{SameDrives, IsTold, Looks, LooksAtDrive, ChecksSlot, IsFromDisk, ReadsAtMost, Plans, PlansSlot, PlansRecovery, PlansBoot}
 use Rattle.boot_core.proofs.Looking.{looks_none, looks_then, looks_as, looks_err}
 use Rattle.boot_core.proofs.Verified.{ok_is}
 
 -- ---- a look, as of the board before
 
-told_on : (on : Drive) (w : World) → IsTold w → IsTrue (disk_on on w).medium.told
+told_on : (on : Drive) (w : World) → IsTold w → IsTrue (drive_on on w).medium.told
 told_on Disk w told = told.disk
 told_on Stick w told = told.stick
 
-disk_same : (on : Drive) (old mid : World) → SameDrives old mid → disk_on on mid ≡ disk_on on old
+disk_same : (on : Drive) (old mid : World) → SameDrives old mid → drive_on on mid ≡ drive_on on old
 disk_same Disk old mid same = same.disk
 disk_same Stick old mid same = same.stick
 
@@ -61,7 +62,7 @@ drive_same on key rules old mid same = ap (λ (d : DiskState). let drive : kerne
 
 -- What is seen on a drive, after the slot was verified.
 record SeenFrom (on : Drive) (key : PackedKey) (rules : KernelRules) (old new : World) (room : RoomView) (body : List ℕ) (result : Result Seen Fault) : Type 0 where
-  reads : IsTold old → (disk_on on new).medium.sectors_read ≤ (disk_on on old).medium.sectors_read + (66 + sectors_of_walk (drive_asked on key rules old) (table_on (disk_on on old).medium))
+  reads : IsTold old → (drive_on on new).medium.sectors_read ≤ (drive_on on old).medium.sectors_read + (66 + sectors_of_walk (drive_asked on key rules old) (table_on (drive_on on old).medium))
   seen : IsTold old → IfOk result (λ what. what ≡ seen_on on key rules old)
   kernel : IsTold old → IfOk result (IsSeen (drive_asked on key rules old) body)
   holds : IsTold old → IfOk result (λ what. HasTable what → HoldsWalked (drive_asked on key rules old) room)
@@ -77,16 +78,16 @@ seen_from on key rules old mid new room body result same rows h =
     let d : kernels.Drive = drive_asked on key rules old in
     let e : kernels.Drive = drive_asked on key rules mid in
     let is : e ≡ asked_by d mid.hook = drive_same on key rules old mid same in
-    let disk : disk_on on mid ≡ disk_on on old = disk_same on old mid same in
+    let disk : drive_on on mid ≡ drive_on on old = disk_same on old mid same in
     let told = λ (t : IsTold old). subst (λ (s : DiskState). IsTrue s.medium.told) (sym disk) (told_on on old t) in
     let hook = λ (t : IsTold old). rows.told ∙ t.hook in
     record {
       reads = λ t.
-          let most : sectors_of_walk e (table_on (disk_on on mid).medium) ≡ sectors_of_walk d (table_on (disk_on on old).medium) =
-          ap (λ (x : kernels.Drive). sectors_of_walk x (table_on (disk_on on mid).medium)) is
-          ∙ sectors_again d (table_on (disk_on on mid).medium) mid.hook rows
+          let most : sectors_of_walk e (table_on (drive_on on mid).medium) ≡ sectors_of_walk d (table_on (drive_on on old).medium) =
+          ap (λ (x : kernels.Drive). sectors_of_walk x (table_on (drive_on on mid).medium)) is
+          ∙ sectors_again d (table_on (drive_on on mid).medium) mid.hook rows
           ∙ ap (λ (s : DiskState). sectors_of_walk d (table_on s.medium)) disk in
-          let was : (disk_on on mid).medium.sectors_read ≡ (disk_on on old).medium.sectors_read = ap (λ (s : DiskState). s.medium.sectors_read) disk in
+          let was : (drive_on on mid).medium.sectors_read ≡ (drive_on on old).medium.sectors_read = ap (λ (s : DiskState). s.medium.sectors_read) disk in
           omega (arith, h.reads (told t) (hook t), most, was);
       seen = λ t. on_ok (λ what. what ≡ seen_on on key rules mid) (λ what. what ≡ seen_on on key rules old) result (λ what now. now ∙ ap seen_in is ∙ seen_again d mid.hook rows) (h.seen (told t) (hook t));
       kernel = λ t. on_ok (IsSeen e body) (IsSeen d body) result (λ what now. is_seen_again d body what mid.hook rows (subst (λ (x : kernels.Drive). IsSeen x body what) is now)) (h.kernel (told t) (hook t));
@@ -102,15 +103,15 @@ no_more look old new same Disk = let is = ap (λ (s : DiskState). s.medium.secto
 no_more look old new same Stick = let is = ap (λ (s : DiskState). s.medium.sectors_read) same.stick in omega (arith, is)
 
 -- the other drive is not called
-reads_one : (look : Look) (old new : World) (on : Drive) → look.drive ≡ on → ((other : Drive) → is_same_drive on other ≡ false → disk_on other new ≡ disk_on other old)
-    → (disk_on on new).medium.sectors_read ≤ (disk_on on old).medium.sectors_read + (66 + sectors_of_walk (asked_at look old) (table_on (disk_on look.drive old).medium)) → ReadsAtMost (Some look) old new
+reads_one : (look : Look) (old new : World) (on : Drive) → look.drive ≡ on → ((other : Drive) → same_drive on other ≡ false → drive_on other new ≡ drive_on other old)
+    → (drive_on on new).medium.sectors_read ≤ (drive_on on old).medium.sectors_read + (66 + sectors_of_walk (asked_at look old) (table_on (drive_on look.drive old).medium)) → ReadsAtMost (Some look) old new
 reads_one look old new Disk is others reads Disk =
-    let many = 66 + sectors_of_walk (asked_at look old) (table_on (disk_on look.drive old).medium) in
-    subst (λ (d : Drive). new.disk.medium.sectors_read ≤ old.disk.medium.sectors_read + (if is_same_drive d Disk then many else 0)) (sym is) reads
+    let many = 66 + sectors_of_walk (asked_at look old) (table_on (drive_on look.drive old).medium) in
+    subst (λ (d : Drive). new.disk.medium.sectors_read ≤ old.disk.medium.sectors_read + (if same_drive d Disk then many else 0)) (sym is) reads
 reads_one look old new Disk is others reads Stick = let same = ap (λ (s : DiskState). s.medium.sectors_read) (others Stick refl) in omega (arith, same)
 reads_one look old new Stick is others reads Stick =
-    let many = 66 + sectors_of_walk (asked_at look old) (table_on (disk_on look.drive old).medium) in
-    subst (λ (d : Drive). new.stick.medium.sectors_read ≤ old.stick.medium.sectors_read + (if is_same_drive d Stick then many else 0)) (sym is) reads
+    let many = 66 + sectors_of_walk (asked_at look old) (table_on (drive_on look.drive old).medium) in
+    subst (λ (d : Drive). new.stick.medium.sectors_read ≤ old.stick.medium.sectors_read + (if same_drive d Stick then many else 0)) (sym is) reads
 reads_one look old new Stick is others reads Disk = let same = ap (λ (s : DiskState). s.medium.sectors_read) (others Disk refl) in omega (arith, same)
 
 -- ---- what the plan of a drive says
@@ -136,7 +137,7 @@ stick_unwritten found developer ok subcode (Some kernel) = refl
 stick_unwritten found developer ok subcode None = refl
 
 stick_elsewhere : (found : Found) (developer : Bool) (ok : SlotOk) (subcode : ℕ) (o : Option Kernel) → IsFromDisk (stick_plan_of found developer ok subcode o).outcome → ⊥
-stick_elsewhere found developer ok subcode (Some kernel) is = false≢true (ap (is_same_drive Disk) is)
+stick_elsewhere found developer ok subcode (Some kernel) is = false≢true (ap (same_drive Disk) is)
 stick_elsewhere found developer ok subcode None is = is
 
 disk_table : (found : Found) (developer : Bool) (ok : SlotOk) (o : Option Kernel) (lowest : ℕ) (changed : Bool) → (disk_plan_of found developer ok o lowest changed).table ≡ changed
@@ -233,7 +234,7 @@ same_rows : {T : Type 0} (on : Drive) (key : PackedKey) (rules : KernelRules) (o
 same_rows on key rules old mid result looks = record { rows = looks.hook.rows; told = looks.hook.told }
 
 others_same : (on : Drive) (key : PackedKey) (rules : KernelRules) (old mid new : World) (room : RoomView) (body : List ℕ) (result : Result Seen Fault) → SameDrives old mid → LooksAtDrive on key rules mid new room body result
-    → (other : Drive) → is_same_drive on other ≡ false → disk_on other new ≡ disk_on other old
+    → (other : Drive) → same_drive on other ≡ false → drive_on other new ≡ drive_on other old
 others_same Disk key rules old mid new room body result same h Disk differ = absurd (false≢true (sym differ))
 others_same Disk key rules old mid new room body result same h Stick differ = ap (λ (w : World). w.stick) h.others ∙ same.stick
 others_same Stick key rules old mid new room body result same h Stick differ = absurd (false≢true (sym differ))
@@ -244,8 +245,8 @@ locks_same Disk key rules mid new room body result h = ap (λ (w : World). w.tpm
 locks_same Stick key rules mid new room body result h = ap (λ (w : World). w.tpm.locks) h.others
 
 -- a table that is written can be committed to the disk
-disk_ready : (on : Drive) (new : World) (room : RoomView) → on ≡ Disk → CanCommit (disk_on on new) room → CanCommit new.disk room
-disk_ready on new room is ready = subst (λ (dr : Drive). CanCommit (disk_on dr new) room) is ready
+disk_ready : (on : Drive) (new : World) (room : RoomView) → on ≡ Disk → CanCommit (drive_on on new) room → CanCommit new.disk room
+disk_ready on new room is ready = subst (λ (dr : Drive). CanCommit (drive_on dr new) room) is ready
 
 held_table : (look : Look) (w : World) (room : RoomView) → HoldsWalked (asked_at look w) room → room.table ≡ table_after_look (Some look) w
 held_table look w room holds = holds.2 ∙ sym (ap (table_by (asked_at look w)) holds.1)
@@ -415,7 +416,7 @@ plan_unsought sw found old new room fault enables k = record {
 }
 
 not_from_disk : (found : Found) (subcode : ℕ) (o : Option Kernel) → IsFromDisk (recovery_outcome found subcode o) → ⊥
-not_from_disk found subcode (Some kernel) from = false≢true (ap (is_same_drive Disk) from)
+not_from_disk found subcode (Some kernel) from = false≢true (ap (same_drive Disk) from)
 not_from_disk found subcode None from = from
 
 holds_recovery : (sw : Switches) (found : Found) (w : World) (room : Room) (what : Seen) (o : Option Kernel) → room.has_firmware ≡ false → kernel_of what ≡ o

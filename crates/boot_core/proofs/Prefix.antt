@@ -11,14 +11,14 @@ use Rattle.board_core.specs.Torn.{Logs, added}
 use Rattle.board_core.specs.Flash.{FlashMedium}
 use Rattle.board_core.specs.Disk.{DiskMedium}
 use Rattle.board_core.specs.Tpm.{Spaces}
-use Rattle.board_core.specs.World.{World}
+use Rattle.board_core.specs.World.{World, counters_on}
 use Rattle.board_core.proofs.TornRange.{added_same}
 use Rattle.gpt_core.specs.Commits.{IsOfCommit, bytes_with_table}
 use Rattle.nvstore_core.specs.Pages.{record_in}
 use Rattle.nvstore_core.specs.Fair.{IsFairFlash}
 use Rattle.gpt_core.specs.Format.{PartitionTable}
 use Rattle.gpt_core.specs.Tables.{table_in, IsFairDisk}
-use Rattle.boot_core.specs.Changes.{Change, Firmware, Record, Table, Kernel, flash_with, disk_with, spaces_with, record_with, table_with, device_of, counters_on, calls_on}
+use Rattle.boot_core.specs.Changes.{Change, Firmware, Record, Table, Kernel, flash_with, disk_with, spaces_with, record_with, table_with, device_of, calls_on}
 use Rattle.boot_core.specs.Carries.{Targets, Frame, IsMade, NotesTable, Fails, EndsBetween, EndsIn, EndsAt, OldOrNew}
 use Rattle.boot_core.specs.Steps.{IsTold}
 use Rattle.boot_core.specs.Boots.{BootPlan, State, state_of, changed_state, MayHaveMade, HasNoRecord, HasNoTable, AtFault}

@@ -16,7 +16,7 @@ use Rattle.board_core.specs.Disk.{DiskMedium, DiskState}
 use Rattle.board_core.specs.Flash.{FlashMedium}
 use Rattle.board_core.specs.Hook.{HookState}
 use Rattle.board_core.specs.Tpm.{Spaces}
-use Rattle.board_core.specs.World.{World}
+use Rattle.board_core.specs.World.{World, drive_on}
 use Rattle.key_core.specs.declared.key.PackedKey.{PackedKey}
 use Rattle.rom_core.specs.declared.map.Map.{Map}
 use Rattle.rom_core.specs.declared.fault.MapFault.{MapFault}
@@ -37,8 +37,8 @@ use Rattle.walk_core.specs.Kernels as kernels
 use Rattle.walk_core.specs.Seen.{says_same, both_say, copies_agree, seen_in, sectors_of_walk}
 use Rattle.boot_core.specs.declared.switches.Switches.{Switches}
 use Rattle.boot_core.specs.declared.found.Found.{Found}
-use Rattle.boot_core.specs.declared.drives.Drive.{Drive}
-use Rattle.boot_core.specs.declared.drives.Drive.TheVariants.{Disk, Stick}
+use Rattle.board_core.specs.declared.device.Drive.{Drive}
+use Rattle.board_core.specs.declared.device.Drive.TheVariants.{Disk, Stick}
 use Rattle.boot_core.specs.declared.outcome.Hand.{Hand}
 use Rattle.boot_core.specs.declared.outcome.Outcome.{Outcome}
 use Rattle.boot_core.specs.declared.outcome.Outcome.TheVariants as outcome
@@ -49,10 +49,11 @@ use Rattle.boot_core.specs.Carries.{IsSettled, SameDisk, CarriesOut}
 use Rattle.boot_core.specs.Spaces.{RaisesVersion, RaisesKernel}
 use Rattle.boot_core.specs.Facts.{found_by, found_of, facts_of}
 use Rattle.boot_core.specs.Slots.{vblock_of, main_of, root_of, stored_of, checks_versions, slot_asked, slot_answer, HoldsFirmware}
-use Rattle.boot_core.specs.Drives.{drive_of, rules_of, recovery_of, disk_on, drive_asked, Look, table_by, table_after_look}
+use Rattle.boot_core.specs.Drives.{drive_of, rules_of, recovery_of, drive_asked, Look, table_by, table_after_look}
 use Rattle.boot_core.specs.Plan.{first_changes, later_changes, changes_of, slot_plan_of, drive_plan_of, selected_answer, recovery_plan_of, enabling_plan_of, enables_dev, boot_mode_of, look_by, plan_in, plan_of, look_in, look_of}
 use Rattle.boot_core.specs.Hands.{Handed, handed_by, kernel_key, HoldsSlot, HoldsKernel, HoldsHand, HoldsOutcome}
-use Rattle.boot_core.specs.Steps.{SameDrives, IsTold, Looks, ReadsBoard, IsFromDisk, is_same_drive, most_read, ReadsAtMost, PlansBoot, to_of, WritesTable, Finishes}
+use Rattle.board_core.specs.Drive.{same_drive}
+use Rattle.boot_core.specs.Steps.{SameDrives, IsTold, Looks, ReadsBoard, IsFromDisk, most_read, ReadsAtMost, PlansBoot, to_of, WritesTable, Finishes}
 use Rattle.boot_core.specs.Boots.{BootPlan, boot_plan_of, bad_flash_plan, boot_plan_by, boot_plan, look_found, AtFault, NeverFall, HandsOver, GoesOn, Boots}
 use Rattle.boot_core.proofs.Looking.{looks_then, looks_err}
 use Rattle.boot_core.proofs.Carried.{carried_then, carried_as, carried_cut}
@@ -219,7 +220,7 @@ unfolding slot_asked
 asked_same found slot a b same =
     ap (λ (m : FlashMedium). asked_with found slot m b.hook.rows) same.medium ∙ ap (λ (h : HookState). asked_with found slot a.flash.medium h.rows) same.hook
 
-disk_same : (on : Drive) (a b : World) → SameBoards a b → disk_on on b ≡ disk_on on a
+disk_same : (on : Drive) (a b : World) → SameBoards a b → drive_on on b ≡ drive_on on a
 disk_same Disk a b same = same.disk
 disk_same Stick a b same = same.stick
 
@@ -227,7 +228,7 @@ disk_same Stick a b same = same.stick
 drive_same : (on : Drive) (key : PackedKey) (rules : KernelRules) (a b : World) → SameBoards a b → drive_asked on key rules b ≡ drive_asked on key rules a
 drive_same on key rules a b same =
     ap (λ (d : DiskState). let drive : kernels.Drive = record { disk = d; hook = b.hook; key = key; rules = rules } in drive) (disk_same on a b same)
-    ∙ ap (λ (h : HookState). let drive : kernels.Drive = record { disk = disk_on on a; hook = h; key = key; rules = rules } in drive) same.hook
+    ∙ ap (λ (h : HookState). let drive : kernels.Drive = record { disk = drive_on on a; hook = h; key = key; rules = rules } in drive) same.hook
 
 slot_plan_same : (sw : Switches) (found : Found) (developer : Bool) (answer : Result SlotOk SlotFault) (a b : World) → SameBoards a b → slot_plan_of sw found developer answer b ≡ slot_plan_of sw found developer answer a
 slot_plan_same sw found developer (Ok ok) a b same =
@@ -273,12 +274,12 @@ table_same sw found a b same = ap (λ (look : Option Look). table_after_look loo
 most_same : (look : Option Look) (on : Drive) (a b : World) → SameBoards a b → most_read look b on ≡ most_read look a on
 most_same None on a b same = refl
 most_same (Some look) on a b same =
-    ap (λ (d : kernels.Drive). if is_same_drive look.drive on then 66 + sectors_of_walk d (table_on d.disk.medium) else 0) (drive_same look.drive look.key look.rules a b same)
+    ap (λ (d : kernels.Drive). if same_drive look.drive on then 66 + sectors_of_walk d (table_on d.disk.medium) else 0) (drive_same look.drive look.key look.rules a b same)
 
 -- what is read of one is read of both
 reads_same : (look : Option Look) (a b new : World) → SameBoards a b → ReadsAtMost look b new → ReadsAtMost look a new
 reads_same look a b new same reads on =
-    let was : (disk_on on b).medium.sectors_read ≡ (disk_on on a).medium.sectors_read = ap (λ (d : DiskState). d.medium.sectors_read) (disk_same on a b same) in
+    let was : (drive_on on b).medium.sectors_read ≡ (drive_on on a).medium.sectors_read = ap (λ (d : DiskState). d.medium.sectors_read) (disk_same on a b same) in
     omega (arith, reads on, was, most_same look on a b same)
 
 -- ---- what is handed over

@@ -10,7 +10,7 @@ use Rattle.board_core.specs.declared.counters.FuseState.TheVariants.{Armed, Dead
 use Rattle.board_core.specs.declared.device.Fault.{Fault}
 use Rattle.board_core.specs.Counters.{Rose}
 use Rattle.board_core.specs.Tpm.{Spaces}
-use Rattle.board_core.specs.World.{World}
+use Rattle.board_core.specs.World.{World, counters_on}
 use Rattle.rom_core.specs.declared.fault.MapFault.{MapFault}
 use Rattle.nvstore_core.specs.declared.state.NvState.{NvState}
 use Rattle.nvstore_core.specs.Pages.{record_in, empty_state}
@@ -26,7 +26,7 @@ use Rattle.boot_core.specs.declared.outcome.Hand.{Hand}
 use Rattle.boot_core.specs.declared.outcome.Outcome.{Outcome}
 use Rattle.boot_core.specs.declared.outcome.Outcome.TheVariants as outcome
 use Rattle.boot_core.specs.declared.plan.Plan.{Plan}
-use Rattle.boot_core.specs.Changes.{Change, Record, Table, spaces_with, record_with, table_with, device_of, counters_on, calls_on}
+use Rattle.boot_core.specs.Changes.{Change, Record, Table, spaces_with, record_with, table_with, device_of, calls_on}
 use Rattle.boot_core.specs.Carries.{Targets, CountsBoard, Frame, IsMade, NotesTable}
 use Rattle.boot_core.specs.Spaces.{IsNoLower}
 use Rattle.boot_core.specs.Facts.{found_of, facts_of}

@@ -9,7 +9,7 @@ use Rattle.board_core.specs.Torn.{Grown, added}
 use Rattle.board_core.specs.Fault.{is_fault_of}
 use Rattle.board_core.specs.Flash.{FlashMedium}
 use Rattle.board_core.specs.Disk.{DiskMedium}
-use Rattle.board_core.specs.World.{World}
+use Rattle.board_core.specs.World.{World, counters_on}
 use Rattle.nvstore_core.specs.declared.state.NvState.{NvState}
 use Rattle.nvstore_core.specs.Pages.{record_in}
 use Rattle.nvstore_core.specs.Saving.{SameButPages}
@@ -17,7 +17,7 @@ use Rattle.nvstore_core.specs.Fair.{FailsToStore}
 use Rattle.gpt_core.specs.Format.{PartitionTable}
 use Rattle.gpt_core.specs.Tables.{table_in}
 use Rattle.gpt_core.specs.Commits.{SameButCopies, IsOfCommit, FailsToCommit, bytes_with_table}
-use Rattle.boot_core.specs.Changes.{Change, Record, Table, flash_with, record_with, spaces_with, disk_with, table_with, device_of, counters_on, calls_on}
+use Rattle.boot_core.specs.Changes.{Change, Record, Table, flash_with, record_with, spaces_with, disk_with, table_with, device_of, calls_on}
 
 -- where changes go: the place of nvdata in the flash, in bytes, and the table that is written
 pub record Targets : Type 0 where

@@ -1,13 +1,10 @@
 -- The changes of a boot, and what each makes of what the devices hold.
 use Rattle.std.specs.Prelude.{ℕ, ◌+◌, Bool, true, false, List, [], ◌∷◌, Option, Some, None, if◌then◌else◌}
-use Rattle.board_core.specs.declared.counters.Counters.{Counters}
 use Rattle.board_core.specs.declared.device.Device.{Device}
 use Rattle.board_core.specs.declared.device.Device.TheVariants as device
 use Rattle.board_core.specs.declared.device.Space.TheVariants as space
-use Rattle.board_core.specs.Counters.{plain_counters}
 use Rattle.board_core.specs.Fault.{same_device}
 use Rattle.board_core.specs.Tpm.{Spaces, with_space}
-use Rattle.board_core.specs.World.{World}
 use Rattle.nvstore_core.specs.declared.state.NvState.{NvState}
 use Rattle.nvstore_core.specs.Pages.{state_in, bytes_with_record, state_with_record, calls_to_save}
 use Rattle.gpt_core.specs.Format.{PartitionTable}
@@ -71,14 +68,6 @@ device_of (Firmware bytes) = device.Tpm
 device_of (Record r) = device.Flash
 device_of Table = device.Disk
 device_of (Kernel bytes) = device.Tpm
-
--- the counters of a device; a hook has no stop and no changing call
-abbrev pub counters_on : Device → World → Counters
-counters_on device.Flash w = w.flash.counters
-counters_on device.Tpm w = w.tpm.counters
-counters_on device.Disk w = w.disk.counters
-counters_on device.Stick w = w.stick.counters
-counters_on device.Hook w = plain_counters w.hook.faults 0
 
 -- how many changing calls a change takes: a space one, a record one or three, both copies of the table six
 abbrev pub calls_of : NvState → Change → ℕ

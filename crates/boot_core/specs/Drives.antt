@@ -9,8 +9,7 @@ use Rattle.record_core.specs.Space.{kernel_versions}
 use Rattle.fwsel_core.specs.Mode.{has_flag, is_developer_on}
 use Rattle.board_core.specs.declared.device.Device.TheVariants as device
 use Rattle.board_core.specs.declared.device.Fault.{Fault}
-use Rattle.board_core.specs.Disk.{DiskState}
-use Rattle.board_core.specs.World.{World}
+use Rattle.board_core.specs.World.{World, drive_on}
 use Rattle.key_core.specs.declared.key.PackedKey.{PackedKey}
 use Rattle.rom_core.specs.declared.gbb.Gbb.{Gbb}
 use Rattle.rom_core.specs.declared.fault.GbbFault.{GbbFault}
@@ -27,8 +26,8 @@ use Rattle.boot_core.specs.declared.switches.Choice.{Choice}
 use Rattle.boot_core.specs.declared.switches.Choice.TheVariants.{Default, Internal, External}
 use Rattle.boot_core.specs.declared.switches.Switches.{Switches}
 use Rattle.boot_core.specs.declared.found.Found.{Found}
-use Rattle.boot_core.specs.declared.drives.Drive.{Drive}
-use Rattle.boot_core.specs.declared.drives.Drive.TheVariants.{Disk, Stick}
+use Rattle.board_core.specs.declared.device.Drive.{Drive}
+use Rattle.board_core.specs.declared.device.Drive.TheVariants.{Disk, Stick}
 use Rattle.boot_core.specs.Slots.{no_key}
 use Rattle.boot_core.specs.Facts.{facts_of}
 
@@ -78,17 +77,8 @@ recovery_of (Err fault) = no_key
 
 -- ---- what is seen
 
--- a drive of a board
-abbrev pub disk_on : Drive → World → DiskState
-disk_on Disk w = w.disk
-disk_on Stick w = w.stick
-
 abbrev pub drive_asked : Drive → PackedKey → KernelRules → World → kernels.Drive
-drive_asked drive key rules w = record { disk = disk_on drive w; hook = w.hook; key = key; rules = rules }
-
-abbrev pub with_disk : Drive → DiskState → World → World
-with_disk Disk state w = record w { disk = state }
-with_disk Stick state w = record w { stick = state }
+drive_asked drive key rules w = record { disk = drive_on drive w; hook = w.hook; key = key; rules = rules }
 
 -- the fault of a board, where a look failed
 abbrev pub fault_on : Drive → Failure → Fault
@@ -121,4 +111,4 @@ table_by d (Some table) = table_walked d table
 -- the table in which each entry has met its fate, where the boot looks at a drive that has one
 abbrev pub table_after_look : Option Look → World → PartitionTable
 table_after_look None w = no_table
-table_after_look (Some look) w = table_by (asked_at look w) (table_on (disk_on look.drive w).medium)
+table_after_look (Some look) w = table_by (asked_at look w) (table_on (drive_on look.drive w).medium)

@@ -21,8 +21,8 @@ use Rattle.walk_core.specs.declared.drive.Seen.TheVariants as seen
 use Rattle.board_core.specs.World.{World}
 use Rattle.boot_core.specs.declared.switches.Switches.{Switches}
 use Rattle.boot_core.specs.declared.found.Found.{Found}
-use Rattle.boot_core.specs.declared.drives.Drive.{Drive}
-use Rattle.boot_core.specs.declared.drives.Drive.TheVariants.{Disk, Stick}
+use Rattle.board_core.specs.declared.device.Drive.{Drive}
+use Rattle.board_core.specs.declared.device.Drive.TheVariants.{Disk, Stick}
 use Rattle.boot_core.specs.declared.outcome.Hand.{Hand}
 use Rattle.boot_core.specs.declared.outcome.Outcome.{Outcome}
 use Rattle.boot_core.specs.declared.outcome.Outcome.TheVariants as outcome

@@ -7,7 +7,8 @@ use Rattle.board_core.specs.declared.device.Fault.{Fault}
 use Rattle.board_core.specs.Counters.{Observed}
 use Rattle.board_core.specs.Fault.{is_fault_of}
 use Rattle.board_core.specs.Tpm.{TpmState, Locks, unlocked}
-use Rattle.board_core.specs.World.{World}
+use Rattle.board_core.specs.Drive.{same_drive}
+use Rattle.board_core.specs.World.{World, drive_on, with_drive}
 use Rattle.rom_core.specs.declared.map.Map.{Map}
 use Rattle.rom_core.specs.declared.fault.MapFault.{MapFault}
 use Rattle.rom_core.specs.MapFits.{FitsFlash}
@@ -28,8 +29,8 @@ use Rattle.nvstore_core.specs.Pages.{IsStateOf, InRange, page_to_write}
 use Rattle.nvstore_core.specs.Saving.{SameBut, KeepsWritten}
 use Rattle.boot_core.specs.declared.switches.Switches.{Switches}
 use Rattle.boot_core.specs.declared.found.Found.{Found}
-use Rattle.boot_core.specs.declared.drives.Drive.{Drive}
-use Rattle.boot_core.specs.declared.drives.Drive.TheVariants as drive
+use Rattle.board_core.specs.declared.device.Drive.{Drive}
+use Rattle.board_core.specs.declared.device.Drive.TheVariants as drive
 use Rattle.boot_core.specs.declared.outcome.Outcome.{Outcome}
 use Rattle.boot_core.specs.declared.outcome.Outcome.TheVariants as outcome
 use Rattle.boot_core.specs.declared.plan.Plan.{Plan}
@@ -37,7 +38,7 @@ use Rattle.boot_core.specs.declared.room.Room.{Room}
 use Rattle.boot_core.specs.Spaces.{RaisesVersion, RaisesKernel}
 use Rattle.boot_core.specs.Facts.{found_in, found_of}
 use Rattle.boot_core.specs.Slots.{slot_asked, slot_answer, HoldsFirmware}
-use Rattle.boot_core.specs.Drives.{disk_on, drive_asked, with_disk, seen_on, Look, asked_at, table_after_look}
+use Rattle.boot_core.specs.Drives.{drive_asked, seen_on, Look, asked_at, table_after_look}
 use Rattle.boot_core.specs.Plan.{selected_answer, slot_plan_of, look_by, manual_plan_of, look_in, plan_of, look_of, first_changes, later_changes, changes_of}
 use Rattle.boot_core.specs.Hands.{handed_by, HoldsOutcome}
 use Rattle.boot_core.specs.Carries.{SameDisk, Targets, CarriesOut}
@@ -127,17 +128,17 @@ pub record LooksAtDrive (drive : Drive) (key : PackedKey) (rules : KernelRules) 
   pub looks : Looks old new result
   pub none_done : IfErr result (λ fault. fault.done ≡ 0)
   -- all but this drive and the hook is as it was
-  pub others : new ≡ with_disk drive (disk_on drive new) (record old { hook = new.hook })
-  pub reads : IsTrue (disk_on drive old).medium.told → IsTrue old.hook.told
-      → (disk_on drive new).medium.sectors_read ≤ (disk_on drive old).medium.sectors_read
-      + (66 + sectors_of_walk (drive_asked drive key rules old) (table_on (disk_on drive old).medium))
+  pub others : new ≡ with_drive drive (drive_on drive new) (record old { hook = new.hook })
+  pub reads : IsTrue (drive_on drive old).medium.told → IsTrue old.hook.told
+      → (drive_on drive new).medium.sectors_read ≤ (drive_on drive old).medium.sectors_read
+      + (66 + sectors_of_walk (drive_asked drive key rules old) (table_on (drive_on drive old).medium))
   -- what is seen, as far as drive and hook tell
-  pub seen : IsTrue (disk_on drive old).medium.told → IsTrue old.hook.told → IfOk result (λ what. what ≡ seen_on drive key rules old)
-  pub kernel : IsTrue (disk_on drive old).medium.told → IsTrue old.hook.told
+  pub seen : IsTrue (drive_on drive old).medium.told → IsTrue old.hook.told → IfOk result (λ what. what ≡ seen_on drive key rules old)
+  pub kernel : IsTrue (drive_on drive old).medium.told → IsTrue old.hook.told
       → IfOk result (IsSeen (drive_asked drive key rules old) handed_out)
-  pub holds : IsTrue (disk_on drive old).medium.told → IsTrue old.hook.told
+  pub holds : IsTrue (drive_on drive old).medium.told → IsTrue old.hook.told
       → IfOk result (λ what. HasTable what → HoldsWalked (drive_asked drive key rules old) room)
-  pub ready : IfOk result (λ what. HasTable what → CanCommit (disk_on drive new) room)
+  pub ready : IfOk result (λ what. HasTable what → CanCommit (drive_on drive new) room)
 
 -- ---- the plan
 
@@ -158,19 +159,14 @@ abbrev pub IsFromDisk : Outcome → Type 0
 IsFromDisk (outcome.HandOver hand) = hand.drive ≡ drive.Disk
 IsFromDisk other = ⊥
 
-abbrev pub is_same_drive : Drive → Drive → Bool
-is_same_drive drive.Disk drive.Disk = true
-is_same_drive drive.Stick drive.Stick = true
-is_same_drive a b = false
-
 -- How many sectors of a drive are read at most: both copies of its table and those of the walk where it is looked at, else none.
 abbrev pub most_read : Option Look → World → Drive → ℕ
 most_read None w on = 0
 most_read (Some look) w on =
-    if is_same_drive look.drive on then 66 + sectors_of_walk (asked_at look w) (table_on (disk_on look.drive w).medium) else 0
+    if same_drive look.drive on then 66 + sectors_of_walk (asked_at look w) (table_on (drive_on look.drive w).medium) else 0
 
 abbrev pub ReadsAtMost : Option Look → World → World → Type 0
-ReadsAtMost look old new = (on : Drive) → (disk_on on new).medium.sectors_read ≤ (disk_on on old).medium.sectors_read + most_read look old on
+ReadsAtMost look old new = (on : Drive) → (drive_on on new).medium.sectors_read ≤ (drive_on on old).medium.sectors_read + most_read look old on
 
 -- A plan is made, before any change: this one, for which it is looked for a kernel there. `room` is the room afterwards.
 pub record Plans (sw : Switches) (found : Found) (look : Option Look) (planned : Plan) (old new : World) (room : Room)

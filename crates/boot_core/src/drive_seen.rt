@@ -5,10 +5,9 @@ ghost use Rattle.boot_core.specs.Carries.{IsSettled};
 ghost use Rattle.boot_core.specs.Drives as spec;
 ghost use Rattle.boot_core.specs.Steps.{LooksAtDrive};
 
-use crate::drives::Drive;
 use crate::reading::fault_of;
 use crate::room::Room;
-use board_core::{Device, Disk, Fault, Flash, Hook, Platform, Tpm};
+use board_core::{Device, Disk, Drive, Fault, Flash, Hook, Platform, Tpm};
 use chain_core::Failure;
 use kernel_core::KernelRules;
 use key_core::PackedKey;

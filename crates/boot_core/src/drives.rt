@@ -6,6 +6,7 @@ use crate::found::Found;
 use crate::plan::facts_of;
 use crate::slots::no_key;
 use crate::switches::{Choice, Switches};
+use board_core::Drive;
 use fwsel_core::is_developer_on;
 use kernel_core::{BootMode, KernelRules};
 use key_core::PackedKey;
@@ -13,15 +14,6 @@ use record_core::{KernelSpace, Nv, NvField, SpaceFault};
 use rom_core::{Gbb, GbbFault};
 
 const GBB_EXTERNAL_BOOT: u32 = 0x10;
-
-/// A drive of a board.
-#[derive(Clone, Copy, Debug, PartialEq, Eq)]
-pub enum Drive {
-    /// The fixed one.
-    Disk,
-    /// The removable one.
-    Stick,
-}
 
 /// The drive of a boot that goes on with a slot: the removable one in developer mode alone, where that is allowed and asked for.
 pub fn drive_of(sw: Switches, found: &Found, developer: bool) -> Drive

@@ -29,7 +29,6 @@ mod spaces;
 mod switches;
 
 pub use booting::boot;
-pub use drives::Drive;
 pub use laws::{good_choice_is_taken, nvdata_is_beside};
 pub use outcome::{Hand, Outcome};
 pub use room::Room;

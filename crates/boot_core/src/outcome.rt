@@ -1,5 +1,5 @@
 // What a boot comes to where no device fails.
-use crate::drives::Drive;
+use board_core::Drive;
 use fwsel_core::Slot;
 use kernel_core::BootMode;
 use rom_core::MapFault;

@@ -7,7 +7,6 @@ ghost use Rattle.boot_core.specs.Plan as spec;
 ghost use Rattle.boot_core.specs.Spaces.{RaisesVersion, RaisesKernel};
 ghost use Rattle.walk_core.specs.Seen as seen_spec;
 
-use crate::drives::Drive;
 use crate::found::Found;
 use crate::outcome::{Hand, Outcome};
 use crate::spaces::{
@@ -16,6 +15,7 @@ use crate::spaces::{
     second_change, version_change,
 };
 use crate::switches::Switches;
+use board_core::Drive;
 use chain_core::{SlotFault, SlotOk};
 use fwsel_core::{ModeFacts, Selection, fail};
 use kernel_core::BootMode;

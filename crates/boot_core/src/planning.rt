@@ -7,7 +7,7 @@ ghost use Rattle.boot_core.specs.Carries.{IsSettled};
 ghost use Rattle.boot_core.specs.Steps.{PlansSlot, PlansRecovery, PlansBoot};
 
 use crate::drive_seen::look_at;
-use crate::drives::{Drive, drive_of, recovery_of, rules_of};
+use crate::drives::{drive_of, recovery_of, rules_of};
 use crate::found::Found;
 use crate::plan::{
     Plan, boot_mode_of, drive_plan, enables_dev, enabling_plan, facts_of, reboot_plan,
@@ -16,7 +16,7 @@ use crate::plan::{
 use crate::room::Room;
 use crate::slots::check_slot;
 use crate::switches::Switches;
-use board_core::{Disk, Fault, Flash, Hook, Platform, Tpm};
+use board_core::{Disk, Drive, Fault, Flash, Hook, Platform, Tpm};
 use fwsel_core::{Mode, mode, select};
 use kernel_core::BootMode;
 

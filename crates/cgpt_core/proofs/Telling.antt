@@ -7,7 +7,7 @@ use Rattle.board_core.specs.Disk.{DiskState}
 use Rattle.board_core.specs.Streams.{StreamState, Puts}
 use Rattle.gpt_core.specs.Room.{RoomView}
 use Rattle.gpt_core.specs.Tables.{IsGood}
-use Rattle.cgpt_core.specs.declared.call.CgptDrive.{CgptDrive}
+use Rattle.board_core.specs.declared.device.Drive.{Drive}
 use Rattle.cgpt_core.specs.declared.fault.CgptFault.{CgptFault}
 use Rattle.cgpt_core.specs.declared.fault.CgptFault.TheVariants as fault
 use Rattle.cgpt_core.specs.declared.opening.Opened.{Opened}
@@ -58,7 +58,7 @@ pub opens_some : (old mid : DiskState) (room : RoomView) (found : Option Opened)
 opens_some old mid room found opened is opens = subst (λ (o : Option Opened). Opens {E = Failed} old mid room (Ok o)) is opens
 
 -- the text of a table that was shown, or at which the sink failed
-module _ (drive : CgptDrive) (old new : DiskState) (room : RoomView) (opened : Opened) (sectors : ℕ) (put put' : StreamState)
+module _ (drive : Drive) (old new : DiskState) (room : RoomView) (opened : Opened) (sectors : ℕ) (put put' : StreamState)
     (opens : Opens {E = Failed} old new room (Ok (Some opened))) (same : sectors ≡ new.medium.sectors) where
   abbrev text : List ℕ
   text = table_text drive sectors opened.side opened.agree room.table

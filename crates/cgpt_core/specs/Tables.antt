@@ -13,7 +13,7 @@ use Rattle.gpt_core.specs.Room.{RoomView, room_with}
 use Rattle.gpt_core.specs.Tables.{table_in, table_on, IsGood, IsSource, CopiesAgree, BothHold}
 use Rattle.cgpt_core.specs.declared.call.CgptCommand.{CgptCommand}
 use Rattle.cgpt_core.specs.declared.call.CgptCommand.TheVariants.{Repair, Show}
-use Rattle.cgpt_core.specs.declared.call.CgptDrive.{CgptDrive}
+use Rattle.board_core.specs.declared.device.Drive.{Drive}
 use Rattle.cgpt_core.specs.declared.fault.CgptFault.{CgptFault}
 use Rattle.cgpt_core.specs.declared.fault.CgptFault.TheVariants as fault
 use Rattle.cgpt_core.specs.declared.opening.Opened.{Opened}
@@ -113,12 +113,12 @@ IsPut (Err other) = ⊥
 -- ---- show
 
 -- the text of the table of a disk
-abbrev pub IsShown : CgptDrive → DiskMedium → List ℕ → Type 0
+abbrev pub IsShown : Drive → DiskMedium → List ℕ → Type 0
 IsShown drive medium text = (table : PartitionTable) × (opened : Opened) × IsOpened opened medium.sectors medium.bytes table
     × (text ≡ table_text drive medium.sectors opened.side opened.agree table)
 
 -- The table of a drive is shown.
-pub record Shows (drive : CgptDrive) (old new : DiskState) (put put' : StreamState) (result : Result Unit CgptFault) : Type 0 where
+pub record Shows (drive : Drive) (old new : DiskState) (put put' : StreamState) (result : Result Unit CgptFault) : Type 0 where
   -- the disk counted one failed call where it is said to have failed, and none else
   pub counters : Observed old.counters new.counters (is_device result)
   -- it holds what it held
@@ -186,7 +186,7 @@ pub record Repairs (old new : DiskState) (put put' : StreamState) (result : Resu
 -- ---- all commands
 
 -- The commands that do not stand yet change nothing and put nothing.
-abbrev pub Works : CgptCommand → CgptDrive → DiskState → DiskState → StreamState → StreamState → Result Unit CgptFault → Type 0
+abbrev pub Works : CgptCommand → Drive → DiskState → DiskState → StreamState → StreamState → Result Unit CgptFault → Type 0
 Works Show drive old new put put' result = Shows drive old new put put' result
 Works Repair drive old new put put' result = Repairs old new put put' result
 Works other drive old new put put' result = (result ≡ Err fault.NotBuilt) × (new ≡ old) × (put' ≡ put)

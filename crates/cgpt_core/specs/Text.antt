@@ -10,8 +10,8 @@ use Rattle.gpt_core.specs.declared.side.Side.{Side}
 use Rattle.gpt_core.specs.declared.side.Side.TheVariants.{Primary, Backup}
 use Rattle.gpt_core.specs.Entries.{is_used, entry_in}
 use Rattle.gpt_core.specs.Format.{PartitionTable}
-use Rattle.cgpt_core.specs.declared.call.CgptDrive.{CgptDrive}
-use Rattle.cgpt_core.specs.declared.call.CgptDrive.TheVariants.{Disk, Stick}
+use Rattle.board_core.specs.declared.device.Drive.{Drive}
+use Rattle.board_core.specs.declared.device.Drive.TheVariants.{Disk, Stick}
 
 abbrev pub line_end : List ℕ
 line_end = 10 ∷ []
@@ -65,7 +65,7 @@ name_text name = map shown_unit (before_first (λ unit. unit == 0) name)
 
 -- ---- lines
 
-abbrev pub drive_name : CgptDrive → List ℕ
+abbrev pub drive_name : Drive → List ℕ
 drive_name Disk = codes "disk"
 drive_name Stick = codes "stick"
 
@@ -78,7 +78,7 @@ abbrev pub agree_word : Bool → List ℕ
 agree_word true = codes "agree"
 agree_word false = codes "differ"
 
-abbrev pub drive_line : CgptDrive → (sectors : ℕ) → Side → (agree : Bool) → List ℕ
+abbrev pub drive_line : Drive → (sectors : ℕ) → Side → (agree : Bool) → List ℕ
 drive_line drive sectors side agree =
     codes "drive " ++ drive_name drive ++ codes " sectors " ++ decimal sectors ++ codes " table " ++ copy_name side
     ++ codes " " ++ agree_word agree ++ line_end
@@ -116,9 +116,9 @@ unfoldable pub entry_lines : ℕ → List ℕ → List ℕ
 entry_lines zero entries = []
 entry_lines (suc k) entries = entry_lines k entries ++ entry_line entries k
 
-unfoldable pub head_lines : CgptDrive → (sectors : ℕ) → Side → (agree : Bool) → PartitionTable → List ℕ
+unfoldable pub head_lines : Drive → (sectors : ℕ) → Side → (agree : Bool) → PartitionTable → List ℕ
 head_lines drive sectors side agree table =
     drive_line drive sectors side agree ++ guid_line table.guid ++ usable_line table.first_usable table.last_usable
 
-abbrev pub table_text : CgptDrive → (sectors : ℕ) → Side → (agree : Bool) → PartitionTable → List ℕ
+abbrev pub table_text : Drive → (sectors : ℕ) → Side → (agree : Bool) → PartitionTable → List ℕ
 table_text drive sectors side agree table = head_lines drive sectors side agree table ++ entry_lines 128 table.entries

@@ -12,8 +12,8 @@ use Rattle.clap.specs.declared.error.kind.ErrorKind.TheVariants as kind
 use Rattle.cgpt_core.specs.declared.call.CgptCall.{CgptCall}
 use Rattle.cgpt_core.specs.declared.call.CgptCommand.{CgptCommand}
 use Rattle.cgpt_core.specs.declared.call.CgptCommand.TheVariants.{Create, Add, Prioritize, Repair, Show, Find}
-use Rattle.cgpt_core.specs.declared.call.CgptDrive.{CgptDrive}
-use Rattle.cgpt_core.specs.declared.call.CgptDrive.TheVariants.{Disk, Stick}
+use Rattle.board_core.specs.declared.device.Drive.{Drive}
+use Rattle.board_core.specs.declared.device.Drive.TheVariants.{Disk, Stick}
 use Rattle.cgpt_core.specs.declared.call.WordFault.{WordFault}
 use Rattle.cgpt_core.specs.declared.call.WordFault.TheVariants as fault
 use Rattle.cgpt_core.specs.Values.{number_from, used_guid, used_guid_in, type_in, label_in}
@@ -83,13 +83,13 @@ command_named name =
     else if bytes_eq name (codes "find") then Some Find
     else None
 
-abbrev pub drive_of : Text → Option CgptDrive
+abbrev pub drive_of : Text → Option Drive
 drive_of word =
     if bytes_eq word (codes "disk") then Some Disk
     else if bytes_eq word (codes "stick") then Some Stick
     else None
 
-abbrev pub drive_in : List Row → Option CgptDrive
+abbrev pub drive_in : List Row → Option Drive
 drive_in rows = option_and_then drive_of (first_of drive_id rows)
 
 -- a value that is not given is none, and one that cannot be read makes the call a bad one
@@ -112,7 +112,7 @@ kind_in Find text = option_and_then used_guid (type_in text)
 kind_in other text = type_in text
 
 -- a call with no value but the drive
-abbrev pub plain_call : CgptCommand → CgptDrive → CgptCall
+abbrev pub plain_call : CgptCommand → Drive → CgptCall
 plain_call command drive = record {
   command = command;
   drive = drive;

@@ -2,6 +2,7 @@
 ghost use Rattle.std.specs.Prelude.{◌≡◌};
 ghost use Rattle.cgpt_core.specs.Words.{plain_call};
 
+use board_core::Drive;
 use std::marker::Model;
 use thiserror::Error;
 
@@ -20,15 +21,6 @@ pub enum CgptCommand {
     Show,
     /// Finds entries.
     Find,
-}
-
-/// The drive that a command works on.
-#[derive(Clone, Copy, Debug, PartialEq, Eq)]
-pub enum CgptDrive {
-    /// The internal disk.
-    Disk,
-    /// The USB stick.
-    Stick,
 }
 
 /// The name of an entry, seen as its 36 units of UTF-16. It is filled up with 0.
@@ -70,7 +62,7 @@ pub struct CgptCall {
     /// What to do.
     pub command: CgptCommand,
     /// The drive to work on.
-    pub drive: CgptDrive,
+    pub drive: Drive,
     /// The index of an entry, from 1 to 128.
     pub index: Option<u32>,
     /// The first sector of an entry.
@@ -111,7 +103,7 @@ pub enum WordFault {
 
 impl CgptCall {
     // The call of a command without options.
-    pub(crate) fn plain(command: CgptCommand, drive: CgptDrive) -> CgptCall
+    pub(crate) fn plain(command: CgptCommand, drive: Drive) -> CgptCall
         ensures { result ≡ plain_call command drive }
     {
         CgptCall {

@@ -16,7 +16,7 @@ mod reading;
 mod values;
 mod working;
 
-pub use call::{CgptCall, CgptCommand, CgptDrive, Label, WordFault};
+pub use call::{CgptCall, CgptCommand, Label, WordFault};
 pub use fault::CgptFault;
 pub use reading::words;
 pub use working::cgpt;

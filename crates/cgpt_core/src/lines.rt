@@ -3,7 +3,7 @@ ghost use Rattle.std.specs.Prelude.{◌≡◌, ◌+◌, ◌≤◌, ◌<◌, ◌=
 ghost use Rattle.std.specs.List.{before_first};
 ghost use Rattle.cgpt_core.specs.Text as spec;
 
-use crate::call::CgptDrive;
+use board_core::Drive;
 use gpt_core::{Entry, GptRoom, Side};
 use text_core::Text;
 use uuid::Uuid;
@@ -18,7 +18,7 @@ const SUCCESSFUL: u64 = 1 << 56;
 // The lines before those of the entries.
 #[tactic(auto, unfolding(crate::specs::Text::head_lines))]
 pub(crate) fn text_of_head(
-    drive: CgptDrive,
+    drive: Drive,
     sectors: u64,
     side: Side,
     agree: bool,
@@ -39,7 +39,7 @@ pub(crate) fn text_of_head(
     text
 }
 
-fn push_drive_line(text: &mut Text, drive: CgptDrive, sectors: u64, side: Side, agree: bool)
+fn push_drive_line(text: &mut Text, drive: Drive, sectors: u64, side: Side, agree: bool)
     requires { length text.old + 100 ≤ 2048 }
     ensures text { text.new ≡ text.old ++ spec.drive_line drive sectors side agree }
     ensures size { length text.new ≤ length text.old + 100 }
@@ -234,13 +234,13 @@ fn push_number(text: &mut Text, words: &[u8], number: u64)
     text.push_decimal(number);
 }
 
-fn drive_name(drive: CgptDrive) -> &'static [u8]
+fn drive_name(drive: Drive) -> &'static [u8]
     ensures name { result.now ≡ spec.drive_name drive }
     ensures size { length result.now ≤ 5 }
 {
     match drive {
-        CgptDrive::Disk => b"disk",
-        CgptDrive::Stick => b"stick",
+        Drive::Disk => b"disk",
+        Drive::Stick => b"stick",
     }
 }
 

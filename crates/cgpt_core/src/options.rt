@@ -6,8 +6,9 @@ ghost use Rattle.cgpt_core.specs.Values as value;
 ghost use Rattle.cgpt_core.specs.Words as spec;
 ghost use Rattle.cgpt_core.specs.Words.{given};
 
-use crate::call::{CgptCall, CgptCommand, CgptDrive, Label};
+use crate::call::{CgptCall, CgptCommand, Label};
 use crate::values::{guid_of, label_of, number_from, type_of, used_guid};
+use board_core::Drive;
 use clap::ArgMatches;
 
 // The call of a command, where each of its values can be read.
@@ -93,12 +94,12 @@ fn text_in<'a>(matches: &ArgMatches<'a>, id: &str) -> Option<&'a str>
     matches.get_str(id)
 }
 
-fn drive_in(matches: &ArgMatches) -> Option<CgptDrive>
+fn drive_in(matches: &ArgMatches) -> Option<Drive>
     ensures { result ≡ spec.drive_in (rows_of (found_of matches.now)) }
 {
     match text_in(matches, "drive")? {
-        "disk" => Some(CgptDrive::Disk),
-        "stick" => Some(CgptDrive::Stick),
+        "disk" => Some(Drive::Disk),
+        "stick" => Some(Drive::Stick),
         _ => None,
     }
 }

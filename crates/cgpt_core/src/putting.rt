@@ -5,16 +5,15 @@ ghost use Rattle.gpt_core.specs.Format.{IsValidTable};
 ghost use Rattle.cgpt_core.specs.Text.{table_text, entry_lines, entry_line};
 ghost use Rattle.cgpt_core.specs.Tables.{PutsText};
 
-use crate::call::CgptDrive;
 use crate::lines::{text_of_head, text_of_part};
 use crate::opening::Opened;
-use board_core::{Failed, Sink};
+use board_core::{Drive, Failed, Sink};
 use gpt_core::{Entry, GptRoom};
 
 // Puts the table of a drive with so many sectors.
 pub(crate) fn put_table<O: Sink>(
     out: &mut O,
-    drive: CgptDrive,
+    drive: Drive,
     sectors: u64,
     opened: Opened,
     room: &GptRoom,

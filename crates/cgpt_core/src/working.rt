@@ -2,11 +2,11 @@
 ghost use Rattle.std.specs.Prelude.{◌≡◌, true};
 ghost use Rattle.cgpt_core.specs.Tables.{Shows, Repairs, Works, Tells, IsPut};
 
-use crate::call::{CgptCall, CgptCommand, CgptDrive};
+use crate::call::{CgptCall, CgptCommand};
 use crate::fault::CgptFault;
 use crate::opening::open_table;
 use crate::putting::put_table;
-use board_core::{Disk, Failed, Sink};
+use board_core::{Disk, Drive, Failed, Sink};
 use gpt_core::{GptRoom, commit};
 
 /// Works one command on the disk of the drive that the call names. The room holds the table that was read, or an empty one
@@ -39,7 +39,7 @@ pub fn cgpt<D: Disk, O: Sink>(
 fn show<D: Disk, O: Sink>(
     disk: &mut D,
     room: &mut GptRoom,
-    drive: CgptDrive,
+    drive: Drive,
     out: &mut O,
 ) -> Result<(), CgptFault>
     requires settled { (D.state disk.old).medium.pending ≡ 0 }

@@ -13,8 +13,8 @@ use Rattle.rom_core.specs.Faults.{map_fault_number}
 use Rattle.text_core.specs.Numbers.{hex_number}
 use Rattle.kernel_core.specs.declared.rules.BootMode.{BootMode}
 use Rattle.kernel_core.specs.declared.rules.BootMode.TheVariants as mode
-use Rattle.boot_core.specs.declared.drives.Drive.{Drive}
-use Rattle.boot_core.specs.declared.drives.Drive.TheVariants as drive
+use Rattle.board_core.specs.declared.device.Drive.{Drive}
+use Rattle.board_core.specs.declared.device.Drive.TheVariants as drive
 use Rattle.boot_core.specs.declared.outcome.Hand.{Hand}
 use Rattle.boot_core.specs.declared.outcome.Outcome.{Outcome}
 use Rattle.boot_core.specs.declared.outcome.Outcome.TheVariants as outcome

@@ -5,8 +5,8 @@ use Rattle.boot_core.specs.declared.switches.Choice.TheVariants.{Default, Intern
 use Rattle.boot_core.specs.declared.switches.Switches.{Switches}
 use Rattle.cgpt_core.specs.declared.call.WordFault.{WordFault}
 use Rattle.cgpt_core.specs.declared.call.WordFault.TheVariants.{Usage, BadValue, Memory}
-use Rattle.cgpt_core.specs.declared.call.CgptDrive.{CgptDrive}
-use Rattle.cgpt_core.specs.declared.call.CgptDrive.TheVariants.{Disk, Stick}
+use Rattle.board_core.specs.declared.device.Drive.{Drive}
+use Rattle.board_core.specs.declared.device.Drive.TheVariants.{Disk, Stick}
 use Rattle.cgpt_core.specs.Words.{call_of}
 use Rattle.command_core.specs.declared.command.Command.{Command}
 use Rattle.command_core.specs.declared.command.Command.TheVariants.{Boot, ShowFlash, Make, ShowPartition, Cgpt}
@@ -16,11 +16,11 @@ abbrev pub cgpt_words : List (List ℕ) → List (List ℕ)
 cgpt_words rest = codes "cgpt" ∷ rest
 
 -- the words that show a partition
-abbrev pub drive_word : CgptDrive → List ℕ
+abbrev pub drive_word : Drive → List ℕ
 drive_word Disk = codes "disk"
 drive_word Stick = codes "stick"
 
-abbrev pub partition_words : CgptDrive → ℕ → List (List ℕ)
+abbrev pub partition_words : Drive → ℕ → List (List ℕ)
 partition_words drive index = codes "futility" ∷ codes "show" ∷ drive_word drive ∷ decimal index ∷ []
 
 -- a word that may be left out

@@ -1,14 +1,11 @@
 -- What the command on a partition table does, and how it ends.
 use Rattle.std.specs.Prelude.{◌≡◌, ◌⊎◌, Result, Ok, Err}
-use Rattle.board_core.specs.declared.device.Device.{Device}
-use Rattle.board_core.specs.declared.device.Device.TheVariants as device
-use Rattle.board_core.specs.Disk.{DiskState}
+use Rattle.board_core.specs.Drive.{device_of_drive}
 use Rattle.board_core.specs.Streams.{StreamState}
-use Rattle.board_core.specs.World.{World}
+use Rattle.board_core.specs.World.{World, drive_on, with_drive}
 use Rattle.boot_core.specs.Carries.{IsSettled}
 use Rattle.cgpt_core.specs.declared.call.CgptCall.{CgptCall}
-use Rattle.cgpt_core.specs.declared.call.CgptDrive.{CgptDrive}
-use Rattle.cgpt_core.specs.declared.call.CgptDrive.TheVariants.{Disk, Stick}
+use Rattle.board_core.specs.declared.device.Drive.{Drive}
 use Rattle.cgpt_core.specs.declared.fault.CgptFault.{CgptFault}
 use Rattle.cgpt_core.specs.declared.fault.CgptFault.TheVariants as fault
 use Rattle.cgpt_core.specs.Tables.{Works}
@@ -17,25 +14,12 @@ use Rattle.command_core.specs.declared.answer.CgptRefusal.TheVariants as refusal
 use Rattle.command_core.specs.declared.answer.Status.{Status}
 use Rattle.command_core.specs.Prints.{Prints}
 
--- what a drive is on a board
-abbrev pub drive_on : CgptDrive → World → DiskState
-drive_on Disk w = w.disk
-drive_on Stick w = w.stick
-
-abbrev pub with_drive : CgptDrive → DiskState → World → World
-with_drive Disk state w = record w { disk = state }
-with_drive Stick state w = record w { stick = state }
-
-abbrev pub device_of : CgptDrive → Device
-device_of Disk = device.Disk
-device_of Stick = device.Stick
-
 -- A command that is done ends with status 0, and one whose text could not be put with 9. The text of any other is printed
 -- with its status.
-abbrev pub EndsCgpt : CgptDrive → Result Unit CgptFault → StreamState → StreamState → Status → Type 0
+abbrev pub EndsCgpt : Drive → Result Unit CgptFault → StreamState → StreamState → Status → Type 0
 EndsCgpt drive (Ok done) old new status = (status.code ≡ 0) × (new ≡ old)
 EndsCgpt drive (Err fault.Write) old new status = (status.code ≡ 9) × (new ≡ old)
-EndsCgpt drive (Err fault.Device) old new status = Prints (answers.Failed (device_of drive)) old new status
+EndsCgpt drive (Err fault.Device) old new status = Prints (answers.Failed (device_of_drive drive)) old new status
 EndsCgpt drive (Err fault.NoTable) old new status = Prints (answers.RefusedCgpt refusal.NoTable) old new status
 EndsCgpt drive (Err fault.NotBuilt) old new status = Prints answers.CgptNotBuilt old new status
 

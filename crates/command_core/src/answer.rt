@@ -2,9 +2,9 @@
 ghost use Rattle.std.specs.Prelude.{◌≡◌, ◌≤◌, ◌+◌, ◌++◌, length};
 ghost use Rattle.command_core.specs.Answers.{line_of, mode_name, slot_name, drive_name, version_name, firmware_line, kernel_line, stored_line, hand_text, reboot_line, text_of, code_of, device_name, device_code, refusal_name, outcome_text, outcome_code, answer_of_words};
 
-use board_core::{Device, Fault};
+use board_core::{Device, Drive, Fault};
 use board_file::OpenFault;
-use boot_core::{Drive, Hand, Outcome};
+use boot_core::{Hand, Outcome};
 use cgpt_core::WordFault;
 use fwsel_core::Slot;
 use kernel_core::BootMode;

@@ -1,11 +1,12 @@
 // The words after the program's name, as the command that they ask for.
 ghost use Rattle.std.specs.Prelude.{◌≡◌, ◌≤◌, ◌<◌, ◌^◌, ◌↔◌, ◌∷◌, [], ℕ, List, IsTrue, IfSome, IfNone, map, string_bytes, codes, decimal};
-ghost use Rattle.cgpt_core.specs.declared.call.CgptDrive.{CgptDrive};
+ghost use Rattle.board_core.specs.declared.device.Drive.{Drive};
 ghost use Rattle.command_core.specs.Commands.{partition_words, AreShowWords, IsRead, IsReadPlain};
 
 use crate::switch_words::switches_behind;
+use board_core::Drive;
 use boot_core::Switches;
-use cgpt_core::{CgptCall, CgptDrive, WordFault};
+use cgpt_core::{CgptCall, WordFault};
 use std::alloc::Global;
 use text_core::Text;
 
@@ -21,7 +22,7 @@ pub enum Command {
     /// The kernel in a partition of a drive, as text.
     ShowPartition {
         /// The drive.
-        drive: CgptDrive,
+        drive: Drive,
         /// The index of the partition; entries have those from 1 to 128.
         index: u32,
     },
@@ -100,20 +101,20 @@ fn are_three(words: &[String], first: &[u8], second: &[u8], third: &[u8]) -> boo
 // The command that shows a partition.
 fn partition_command(words: &[String]) -> Option<Command>
     ensures some { IfSome result (AreShowWords (map string_bytes words.now)) }
-    ensures none { IfNone result ((drive : CgptDrive) → (index : ℕ) → index < 2 ^ 32
+    ensures none { IfNone result ((drive : Drive) → (index : ℕ) → index < 2 ^ 32
         → map string_bytes words.now ≡ partition_words drive index → ⊥) }
 {
     let show = behind(words, b"futility")?;
     let drive = behind(show, b"show")?;
     if let Some(index) = number_behind(drive, b"disk") {
         return Some(Command::ShowPartition {
-            drive: CgptDrive::Disk,
+            drive: Drive::Disk,
             index,
         });
     }
     let index = number_behind(drive, b"stick")?;
     Some(Command::ShowPartition {
-        drive: CgptDrive::Stick,
+        drive: Drive::Stick,
         index,
     })
 }

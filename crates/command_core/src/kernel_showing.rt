@@ -5,10 +5,8 @@ ghost use Rattle.boot_core.specs.Carries.{IsSettled};
 ghost use Rattle.command_core.specs.KernelShowing.{EndsKernel, ShowsOnDrive, ShowsKernel};
 
 use crate::answer::{Answer, CgptRefusal, SINK_FAULT, Status};
-use crate::partitions::device_of;
 use crate::printing::print;
-use board_core::{Disk, Flash, Hook, Platform, Sink, Tpm};
-use cgpt_core::CgptDrive;
+use board_core::{Disk, Drive, Flash, Hook, Platform, Sink, Tpm};
 use gpt_core::GptRoom;
 use rom_core::layout::LARGEST_VBLOCK;
 use show_core::{PartitionFault, show_partition};
@@ -19,7 +17,7 @@ use std::alloc::Global;
 pub fn run_show_partition<F: Flash, T: Tpm, D: Disk, E: Disk, H: Hook, O: Sink>(
     alloc: Global,
     p: &mut Platform<F, T, D, E, H>,
-    drive: CgptDrive,
+    drive: Drive,
     index: u32,
     out: &mut O,
 ) -> Status
@@ -40,7 +38,7 @@ fn show_on_drive<F: Flash, T: Tpm, D: Disk, E: Disk, H: Hook, O: Sink>(
     p: &mut Platform<F, T, D, E, H>,
     room: &mut GptRoom,
     vblock: &mut [u8],
-    drive: CgptDrive,
+    drive: Drive,
     index: u32,
     out: &mut O,
 ) -> Result<(), PartitionFault>
@@ -50,20 +48,20 @@ fn show_on_drive<F: Flash, T: Tpm, D: Disk, E: Disk, H: Hook, O: Sink>(
         (O.state out.new) result }
 {
     match drive {
-        CgptDrive::Disk => show_partition(&mut p.disk, room, vblock, index, out),
-        CgptDrive::Stick => show_partition(&mut p.stick, room, vblock, index, out),
+        Drive::Disk => show_partition(&mut p.disk, room, vblock, index, out),
+        Drive::Stick => show_partition(&mut p.stick, room, vblock, index, out),
     }
 }
 
 // Ends a showing, and answers the exit status.
-fn end_kernel<O: Sink>(out: &mut O, drive: CgptDrive, answer: Result<(), PartitionFault>) -> Status
+fn end_kernel<O: Sink>(out: &mut O, drive: Drive, answer: Result<(), PartitionFault>) -> Status
     ensures ends { EndsKernel drive answer (O.state out.old) (O.state out.new) result }
     ensures not_usage { result.code ≡ 1 → ⊥ }
 {
     match answer {
         Ok(()) => Status { code: 0 },
         Err(PartitionFault::Write) => Status { code: SINK_FAULT },
-        Err(PartitionFault::Device) => print(out, &Answer::Failed(device_of(drive))),
+        Err(PartitionFault::Device) => print(out, &Answer::Failed(drive.device())),
         Err(PartitionFault::NoTable) => print(out, &Answer::RefusedCgpt(CgptRefusal::NoTable)),
         Err(PartitionFault::NoEntry) => print(out, &Answer::RefusedCgpt(CgptRefusal::NoEntry)),
     }

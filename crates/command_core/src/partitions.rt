@@ -2,13 +2,12 @@
 ghost use Rattle.std.specs.Prelude.{◌≡◌};
 ghost use Rattle.board_core.specs.World.{world};
 ghost use Rattle.boot_core.specs.Carries.{IsSettled};
-ghost use Rattle.command_core.specs.Partitions as spec;
 ghost use Rattle.command_core.specs.Partitions.{EndsCgpt, WorksOnDrive, WorksTable};
 
 use crate::answer::{Answer, CgptRefusal, SINK_FAULT, Status};
 use crate::printing::print;
-use board_core::{Device, Disk, Flash, Hook, Platform, Sink, Tpm};
-use cgpt_core::{CgptCall, CgptDrive, CgptFault, cgpt};
+use board_core::{Device, Disk, Drive, Flash, Hook, Platform, Sink, Tpm};
+use cgpt_core::{CgptCall, CgptFault, cgpt};
 use gpt_core::GptRoom;
 use std::alloc::Global;
 
@@ -43,30 +42,21 @@ fn work_cgpt<F: Flash, T: Tpm, D: Disk, E: Disk, H: Hook, O: Sink>(
         (O.state out.new) result }
 {
     match call.drive {
-        CgptDrive::Disk => cgpt(&mut p.disk, room, call, out),
-        CgptDrive::Stick => cgpt(&mut p.stick, room, call, out),
+        Drive::Disk => cgpt(&mut p.disk, room, call, out),
+        Drive::Stick => cgpt(&mut p.stick, room, call, out),
     }
 }
 
 // Ends a command, and answers the exit status.
-fn end_cgpt<O: Sink>(out: &mut O, drive: CgptDrive, answer: Result<(), CgptFault>) -> Status
+fn end_cgpt<O: Sink>(out: &mut O, drive: Drive, answer: Result<(), CgptFault>) -> Status
     ensures ends { EndsCgpt drive answer (O.state out.old) (O.state out.new) result }
     ensures not_usage { result.code ≡ 1 → ⊥ }
 {
     match answer {
         Ok(()) => Status { code: 0 },
         Err(CgptFault::Write) => Status { code: SINK_FAULT },
-        Err(CgptFault::Device) => print(out, &Answer::Failed(device_of(drive))),
+        Err(CgptFault::Device) => print(out, &Answer::Failed(drive.device())),
         Err(CgptFault::NoTable) => print(out, &Answer::RefusedCgpt(CgptRefusal::NoTable)),
         Err(CgptFault::NotBuilt) => print(out, &Answer::CgptNotBuilt),
-    }
-}
-
-pub(crate) fn device_of(drive: CgptDrive) -> Device
-    ensures { result ≡ spec.device_of drive }
-{
-    match drive {
-        CgptDrive::Disk => Device::Disk,
-        CgptDrive::Stick => Device::Stick,
     }
 }

@@ -1,5 +1,6 @@
 // The values of the options of an entry, each in its field.
-use cgpt_core::{CgptCall, CgptCommand, CgptDrive, Label, words};
+use board_core::Drive;
+use cgpt_core::{CgptCall, CgptCommand, Label, words};
 use std::process::Abort;
 use std::test::Fail;
 
@@ -57,7 +58,7 @@ fn values_of_options(rt: HostRuntime) -> Result<(), Fail> {
     )?;
     let call = CgptCall {
         command: CgptCommand::Add,
-        drive: CgptDrive::Stick,
+        drive: Drive::Stick,
         index: Some(13),
         begin: Some(1164),
         size: Some(10),

@@ -4,8 +4,8 @@ use Rattle.board_core.specs.World.{World, world}
 use Rattle.board_core.specs.declared.device.Fault.{Fault}
 use Rattle.walk_core.specs.declared.drive.Seen.{Seen}
 use Rattle.chain_core.specs.declared.fault.Failure.{Failure}
-use Rattle.boot_core.specs.declared.drives.Drive.{Drive}
-use Rattle.boot_core.specs.declared.drives.Drive.TheVariants.{Disk, Stick}
+use Rattle.board_core.specs.declared.device.Drive.{Drive}
+use Rattle.board_core.specs.declared.device.Drive.TheVariants.{Disk, Stick}
 use Rattle.boot_core.specs.Drives.{fault_on}
 use Rattle.boot_core.proofs.OnDrives.{said, looks_at}
 use Rattle.boot_core.proofs.drive_seen.look_at.Goals as goal

@@ -6,7 +6,7 @@ use Rattle.key_core.specs.declared.key.PackedKey.{PackedKey}
 use Rattle.kernel_core.specs.declared.rules.BootMode.TheVariants as boot_mode
 use Rattle.kernel_core.specs.declared.rules.KernelRules.{KernelRules}
 use Rattle.walk_core.specs.declared.drive.Seen.{Seen}
-use Rattle.boot_core.specs.declared.drives.Drive.TheVariants.{Stick}
+use Rattle.board_core.specs.declared.device.Drive.TheVariants.{Stick}
 use Rattle.boot_core.specs.Drives.{rules_of, recovery_of}
 use Rattle.boot_core.specs.Steps.{LooksAtDrive}
 use Rattle.boot_core.proofs.Planned.{plan_recovered}

@@ -9,7 +9,7 @@ use Rattle.chain_core.specs.declared.slot_fault.SlotOk.{SlotOk}
 use Rattle.kernel_core.specs.declared.rules.KernelRules.{KernelRules}
 use Rattle.walk_core.specs.declared.drive.Seen.{Seen}
 use Rattle.board_core.specs.declared.device.Fault.{Fault}
-use Rattle.boot_core.specs.declared.drives.Drive.{Drive}
+use Rattle.board_core.specs.declared.device.Drive.{Drive}
 use Rattle.boot_core.specs.Drives.{drive_of, rules_of}
 use Rattle.boot_core.specs.Plan.{boot_mode_of, drive_plan_of}
 use Rattle.boot_core.specs.Steps.{LooksAtDrive, ChecksSlot, PlansSlot}

@@ -84,7 +84,9 @@ def rows(number):
                 (data, kernel_preamble(number,version,p,s)[0], fill(number,p,256)),
                 (data, kernel_body(number,b), fill(number,s,256))]
     return [(4, sha256(key), sha256(message), sha256(sig)) for key, message, sig in out]
-for number in (1, 8, 4294967295):
-    print(number, *(sha256(image(number)).hex() for image in (flash, disk, stick)))
-for algorithm, key, digest, sig in rows(1): print(algorithm, key.hex(), digest.hex(), sig.hex())
-print(sha256(b''.join(k + d + s for _, k, d, s in rows(1))).hex())
+
+if __name__ == '__main__': # what crates/make_core is compared with
+    for number in (1, 8, 4294967295):
+        print(number, *(sha256(image(number)).hex() for image in (flash, disk, stick)))
+    for algorithm, key, digest, sig in rows(1): print(algorithm, key.hex(), digest.hex(), sig.hex())
+    print(sha256(b''.join(k + d + s for _, k, d, s in rows(1))).hex())

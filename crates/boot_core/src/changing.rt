@@ -135,7 +135,7 @@ fn write_kernel<F: Flash, T: Tpm, D: Disk, E: Disk, H: Hook>(
     let Some(kernel) = change else {
         return Ok(done);
     };
-    let Ok(_) = p.tpm.write(Space::Kernel, &kernel.to_bytes()) else {
+    let Ok(_) = p.tpm.write(Space::Kernel, kernel.as_slice()) else {
         return Err(Fault {
             device: Device::Tpm,
             done,

@@ -201,7 +201,7 @@ pub fn kernel_change(
     };
     let mut new = *old;
     new.set_versions(new_kernel_version(trying, old.versions(), lowest));
-    if new.to_bytes() == old.to_bytes() {
+    if new.as_slice() == old.as_slice() {
         None
     } else {
         Some(new)

@@ -5,7 +5,8 @@ use Rattle.record_core.specs.declared.field.NvField.TheVariants as field
 use Rattle.record_core.specs.declared.space.SpaceFault.TheVariants as fault
 use Rattle.record_core.specs.Field.{field_of}
 use Rattle.record_core.specs.Nv.{is_good_record, with_field, blank_record}
-use Rattle.record_core.specs.Space.{firmware_fault, firmware_flags, with_firmware_flags, with_firmware_versions, stored_firmware_version, kernel_fault, with_kernel_versions, stored_kernel_version}
+use Rattle.record_core.specs.Space.{firmware_fault, firmware_flags, with_firmware_flags, with_firmware_versions, stored_firmware_version}
+use Rattle.record_core.specs.Space.{kernel_fault, with_kernel_versions, stored_kernel_version, migrated_space}
 
 -- ---- the nvdata record
 
@@ -108,3 +109,33 @@ kernel_version_fault = refl
 kernel_uid_fault : kernel_fault (0x02 ∷ 0x4c ∷ 0x57 ∷ 0x52 ∷ 0x46 ∷ 0x01 ∷ 0x00 ∷ 0x01 ∷ 0x00 ∷ 0x00 ∷ 0x00 ∷ 0x00 ∷ 0x46 ∷ []) ≡ Some fault.Uid
 unfolding crc8_of remainder
 kernel_uid_fault = refl
+
+-- ---- the kernel space from version 1.0 on
+
+-- versions 0x00010001, of no flags and a hash of zeros
+migrated_kernel : List ℕ
+migrated_kernel = 0x10 ∷ 0x28 ∷ 0x0c ∷ 0x00 ∷ 0x01 ∷ 0x00 ∷ 0x01 ∷ 0x00 ∷ replicate 32 0
+
+kernel_migrated : migrated_space (new_kernel ++ 0x55 ∷ []) ≡ migrated_kernel
+unfolding crc8_of remainder new_kernel migrated_kernel
+kernel_migrated = refl
+
+kernel_migrated_good : stored_kernel_version migrated_kernel ≡ Some 0x00010001
+unfolding crc8_of remainder migrated_kernel
+kernel_migrated_good = refl
+
+kernel_v1_newer : with_kernel_versions migrated_kernel 0x00010002 ≡ 0x10 ∷ 0x28 ∷ 0xe4 ∷ 0x00 ∷ 0x02 ∷ 0x00 ∷ 0x01 ∷ 0x00 ∷ replicate 32 0
+unfolding crc8_of remainder migrated_kernel
+kernel_v1_newer = refl
+
+kernel_v1_size_fault : kernel_fault (0x10 ∷ 0x29 ∷ 0x0c ∷ 0x00 ∷ 0x01 ∷ 0x00 ∷ 0x01 ∷ 0x00 ∷ replicate 32 0) ≡ Some fault.Size
+unfolding crc8_of remainder
+kernel_v1_size_fault = refl
+
+kernel_v1_crc_fault : kernel_fault (0x10 ∷ 0x28 ∷ 0x0d ∷ 0x00 ∷ 0x01 ∷ 0x00 ∷ 0x01 ∷ 0x00 ∷ replicate 32 0) ≡ Some fault.Crc
+unfolding crc8_of remainder
+kernel_v1_crc_fault = refl
+
+kernel_v1_version_fault : kernel_fault (0x20 ∷ 0x28 ∷ 0x0c ∷ 0x00 ∷ 0x01 ∷ 0x00 ∷ 0x01 ∷ 0x00 ∷ replicate 32 0) ≡ Some fault.Version
+unfolding crc8_of remainder
+kernel_v1_version_fault = refl

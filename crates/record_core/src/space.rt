@@ -1,6 +1,7 @@
-// What both spaces of the TPM have: what can be wrong with one, and the CRC in its last byte.
-ghost use Rattle.std.specs.Prelude.{◌≡◌, ◌≤◌, ◌<◌, length};
-ghost use Rattle.record_core.specs.Space.{fault_number, with_crc};
+// What both spaces of the TPM have: what can be wrong with one, and its CRC.
+ghost use Rattle.std.specs.Prelude.{◌≡◌, ◌≤◌, ◌<◌, ◌+◌, length, drop};
+ghost use Rattle.wire_core.specs.Crc8.{crc8_of};
+ghost use Rattle.record_core.specs.Space.{fault_number, with_crc, with_front_crc};
 
 use wire_core::crc8;
 
@@ -9,11 +10,11 @@ use wire_core::crc8;
 pub enum SpaceFault {
     /// The number of bytes is not that of the space.
     Size,
-    /// The last byte is not the CRC-8 of the others.
+    /// The CRC-8 is not that of the bytes before it, or in a kernel space of 40 bytes of those behind it.
     Crc,
     /// The version of the structure is not one that is known.
     Version,
-    /// The kernel space has another uid.
+    /// The kernel space of 13 bytes has another uid.
     Uid,
 }
 
@@ -39,4 +40,20 @@ pub(crate) fn renew_crc(bytes: &mut [u8], at: usize)
     ensures { bytes.new ≡ with_crc at bytes.old }
 {
     bytes[at] = crc8(&bytes[..at]);
+}
+
+// Writes the CRC-8 of the bytes behind `at` into the byte there.
+pub(crate) fn renew_front_crc(bytes: &mut [u8], at: usize)
+    requires { at < length bytes.old }
+    ensures { bytes.new ≡ with_front_crc at bytes.old }
+{
+    bytes[at] = crc_behind(bytes, at);
+}
+
+// The CRC-8 of the bytes behind `at`.
+pub(crate) fn crc_behind(bytes: &[u8], at: usize) -> u8
+    requires { at < length bytes.now }
+    ensures { result ≡ crc8_of (drop (at + 1) bytes.now) }
+{
+    crc8(&bytes[at + 1..])
 }

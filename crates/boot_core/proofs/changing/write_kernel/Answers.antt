@@ -21,7 +21,7 @@ returns-in_default-write-clause-carried g c = λ (to : Targets) (state : NvState
     let w : World = world g.F.Flash.state g.T.Tpm.state g.H.Hook.state c.args.p.now in
     let new : World = world g.F.Flash.state g.T.Tpm.state g.H.Hook.state (record c.args.p.now { tpm = c.write.new.self }) in
     let meets : WritesSpace space.Kernel c.in-Some.kernel w.tpm new.tpm (Err c.in_default-write.field-0) =
-    subst (λ (bytes : List ℕ). WritesSpace space.Kernel bytes w.tpm new.tpm (Err c.in_default-write.field-0)) c.to_bytes.ensures.same c.in_default-write.ensures.meets in
+    subst (λ (bytes : List ℕ). WritesSpace space.Kernel bytes w.tpm new.tpm (Err c.in_default-write.field-0)) c.as_slice.ensures.same c.in_default-write.ensures.meets in
     subst (λ (change : Option (List ℕ)). CarriesOut {T = ℕ} c.args.done to state (listed Kernel change) w new (Err (tpm_fault c.args.done))) (sym c.in-Some.is)
     (space_failed {T = ℕ} c.args.done to state space.Kernel c.in-Some.kernel w new.tpm c.in_default-write.field-0 c.requires.settled c.args.p.now.tpm.to_go meets)
 
@@ -30,6 +30,6 @@ returns-clause-carried g c = λ (to : Targets) (state : NvState).
     let w : World = world g.F.Flash.state g.T.Tpm.state g.H.Hook.state c.args.p.now in
     let new : World = world g.F.Flash.state g.T.Tpm.state g.H.Hook.state (record c.args.p.now { tpm = c.write.new.self }) in
     let meets : WritesSpace {E = Failed} space.Kernel c.in-Some.kernel w.tpm new.tpm (Ok tt) =
-    subst (λ (bytes : List ℕ). WritesSpace {E = Failed} space.Kernel bytes w.tpm new.tpm (Ok tt)) c.to_bytes.ensures.same c.in-Ok.ensures.meets in
+    subst (λ (bytes : List ℕ). WritesSpace {E = Failed} space.Kernel bytes w.tpm new.tpm (Ok tt)) c.as_slice.ensures.same c.in-Ok.ensures.meets in
     subst (λ (change : Option (List ℕ)). CarriesOut {T = ℕ} c.args.done to state (listed Kernel change) w new (Ok (c.args.done + 1))) (sym c.in-Some.is)
     (space_made {T = ℕ} c.args.done to state space.Kernel c.in-Some.kernel w new.tpm (c.args.done + 1) c.requires.settled meets)

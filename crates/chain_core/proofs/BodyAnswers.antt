@@ -17,7 +17,7 @@ use Rattle.chain_core.specs.declared.fault.BodyFault.{BodyFault}
 use Rattle.chain_core.specs.declared.fault.BodyFault.TheVariants as faults
 use Rattle.chain_core.proofs.Said.{asked_none}
 use Rattle.chain_core.proofs.FourLines.{of_tests, by_first, by_second, by_third, by_last}
-use Rattle.chain_core.proofs.Lifted.{is_other, is_same, over}
+use Rattle.preamble_core.proofs.Lifted.{is_other, is_same, over}
 
 -- ---- the table
 

@@ -8,9 +8,10 @@ use Rattle.key_core.specs.declared.keyblock.Seal.TheVariants as seals
 use Rattle.key_core.specs.declared.fault.KeyblockFault.{KeyblockFault}
 use Rattle.key_core.specs.declared.fault.KeyblockFault.TheVariants as keyblock_faults
 use Rattle.chain_core.specs.Accepted.{key_of, is_enrolled}
-use Rattle.chain_core.specs.Tables.{lifted, KeyblockQuestion, keyblock_of, signer_lines, seal_lines, data_key_lines, signer_question, data_key_question, DataKeyQuestion, keyblock_table}
+use Rattle.preamble_core.specs.Lines.{lifted}
+use Rattle.chain_core.specs.Tables.{KeyblockQuestion, keyblock_of, signer_lines, seal_lines, data_key_lines, signer_question, data_key_question, DataKeyQuestion, keyblock_table}
 use Rattle.chain_core.specs.Checking.{view_question}
-use Rattle.chain_core.proofs.Lifted.{lifted-none, lifted-some, is_other, is_same}
+use Rattle.preamble_core.proofs.Lifted.{lifted-none, lifted-some, is_other, is_same}
 
 -- ---- four tables in a row
 

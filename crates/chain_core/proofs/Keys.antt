@@ -5,7 +5,7 @@ use Rattle.wire_core.specs.FirstFault.{first_fault}
 use Rattle.wire_core.proofs.FirstFault.{first_fault-none}
 use Rattle.key_core.specs.Algorithms.{KeyQuestion, signature_lengths, signature_length, key_length, is_sha1}
 use Rattle.chain_core.specs.Tables.{signer_lines, DataKeyQuestion, data_key_lines}
-use Rattle.chain_core.proofs.Lifted.{not_over, is_equal}
+use Rattle.preamble_core.proofs.Lifted.{not_over, is_equal}
 
 length_most : (i : ℕ) → slice_index signature_lengths i ≤ 1024
 length_most zero = omega arith

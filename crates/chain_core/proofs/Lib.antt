@@ -2,7 +2,6 @@
 pub mod Rows
 pub mod Asking
 pub mod Said
-pub mod Lifted
 pub mod FourLines
 pub mod Keys
 pub mod Checking

@@ -1,64 +1,94 @@
--- The table of a firmware preamble, and answers of its check.
-use Rattle.std.proofs.Common.{◌≡◌, ℕ, ◌≤◌, Bool, false, true, Some, None, List, Ok, Err, refl, ap}
+-- The table of a form of preamble, and answers of its check.
+use Rattle.std.proofs.Common.{◌≡◌, ℕ, Bool, false, true, Option, Some, None, List, Result, Ok, Err, length, refl, ap, subst, sym, ◌∙◌}
 use Rattle.std.specs.Prelude.{IsTrue}
 use Rattle.wire_core.specs.FirstFault.{first_fault}
 use Rattle.board_core.specs.Hook.{HookState}
 use Rattle.key_core.specs.declared.key.PackedKey.{PackedKey}
-use Rattle.preamble_core.specs.Firmware.{FwPreamble, firmware_lines, firmware_preamble_in, FwPreambleFits, FwPreambleIsSigned}
-use Rattle.preamble_core.specs.declared.fault.FwPreambleFault.{FwPreambleFault}
+use Rattle.preamble_core.specs.Common.{common_in, signature_of}
+use Rattle.preamble_core.specs.Lines.{lifted}
+use Rattle.preamble_core.specs.declared.fault.KernelPreambleFault.{KernelPreambleFault}
+use Rattle.preamble_core.proofs.Lifted.{named}
 use Rattle.chain_core.specs.Accepted.{Asked}
-use Rattle.chain_core.specs.Tables.{PreambleQuestion, asked_of_signature, firmware_line, signature_lines, further_preamble_lines, preamble_table}
-use Rattle.chain_core.specs.Checking.{preamble_question, signature_question, ChecksPreamble}
-use Rattle.chain_core.proofs.Lifted.{named}
-use Rattle.chain_core.proofs.SignatureAnswers.{bytes_fault, by_signature, same_signature}
+use Rattle.chain_core.specs.Tables.{PreambleQuestion, asked_of_signature, signature_lines, Form, table_of}
+use Rattle.chain_core.specs.Checking.{preamble_question, signature_question, ChecksSignature, ChecksPreamble}
+use Rattle.chain_core.proofs.SignatureAnswers.{bytes_fault, by_signature, no_signature_fault, same_signature}
 
 -- ---- the table
 
-pub view_fault : (q : PreambleQuestion) (fault : FwPreambleFault) → first_fault firmware_lines q.bytes ≡ Some fault → first_fault preamble_table q ≡ Some fault
-unfolding preamble_table
-view_fault q fault e = bytes_fault firmware_lines further_preamble_lines q fault e
+pub view_fault : {Preamble Fault : Type 0} (form : Form Preamble Fault) (q : PreambleQuestion) (fault : Fault)
+    → first_fault form.lines q.bytes ≡ Some fault → first_fault (table_of form) q ≡ Some fault
+unfolding table_of
+view_fault form q fault e = bytes_fault form.lines (lifted (asked_of_signature form.kind) form.name signature_lines) q fault e
+
+-- where a preamble has no fault, the lines on the signature find none
+pub no_fault_of_signature : {Preamble Fault : Type 0} (form : Form Preamble Fault) (q : PreambleQuestion)
+    → first_fault (table_of form) q ≡ None → first_fault signature_lines (asked_of_signature form.kind q) ≡ None
+unfolding table_of
+no_fault_of_signature form q e = no_signature_fault form.lines (asked_of_signature form.kind) form.name q e
 
 -- What the view found: the bytes alone show no fault, and these are the parts.
-pub record Viewed (bytes : List ℕ) (preamble : FwPreamble) : Type 0 where
-  pub none : first_fault firmware_lines bytes ≡ None
-  pub parts : preamble ≡ firmware_preamble_in bytes
-  pub fits : FwPreambleFits bytes preamble
-  pub signed : FwPreambleIsSigned preamble
+pub record Viewed {Preamble Fault : Type 0} (form : Form Preamble Fault) (bytes : List ℕ) (preamble : Preamble) : Type 0 where
+  pub none : first_fault form.lines bytes ≡ None
+  pub parts : preamble ≡ form.parts bytes
+  pub common : form.common preamble ≡ common_in form.kind bytes
+  pub signature_length : length (form.common preamble).signature ≡ (signature_of bytes).size
+  pub fits : form.Fits bytes preamble
+  pub signed : form.IsSigned preamble
 
 -- so the lines on the signature decide
-pub by_lines : (bytes : List ℕ) (key : PackedKey) (stored : ℕ) (rollback : Bool) (hook : HookState) (preamble : FwPreamble) → Viewed bytes preamble
-    → first_fault preamble_table (preamble_question bytes key stored rollback hook)
-    ≡ named firmware_line (first_fault signature_lines (signature_question preamble.signed preamble.signature preamble.version key stored rollback hook))
-unfolding preamble_table
-by_lines bytes key stored rollback hook preamble viewed =
+by_lines : {Preamble Fault : Type 0} (form : Form Preamble Fault) (bytes : List ℕ) (key : PackedKey) (stored : ℕ) (rollback : Bool)
+    (hook : HookState) (preamble : Preamble) → Viewed form bytes preamble
+    → first_fault (table_of form) (preamble_question bytes key stored rollback hook)
+    ≡ named form.name (first_fault signature_lines (signature_question (form.common preamble) key stored rollback hook))
+unfolding table_of
+by_lines form bytes key stored rollback hook preamble viewed =
     let q = preamble_question bytes key stored rollback hook in
-    let read = signature_question preamble.signed preamble.signature preamble.version key stored rollback hook in
-    by_signature firmware_lines asked_of_signature firmware_line q read viewed.none
-    (same_signature read (asked_of_signature q) (ap (λ (p : FwPreamble). p.signed) viewed.parts) (ap (λ (p : FwPreamble). p.signature) viewed.parts)
-    viewed.fits.signature_length (ap (λ (p : FwPreamble). p.version) viewed.parts) refl refl refl refl)
+    let read = signature_question (form.common preamble) key stored rollback hook in
+    by_signature form.lines (asked_of_signature form.kind) form.name q read viewed.none
+    (same_signature read (asked_of_signature form.kind q) viewed.common viewed.signature_length refl refl refl refl)
 
 -- ---- answers
 
-pub preamble_fault : {E : Type 0} (bytes : List ℕ) (key : PackedKey) (stored : ℕ) (rollback : Bool) (old new : HookState) (fault : FwPreambleFault) → Asked old new false
-    → (IsTrue old.told → first_fault preamble_table (preamble_question bytes key stored rollback old) ≡ Some fault)
-    → ChecksPreamble {E = E} bytes key stored rollback old new (Ok (Err fault))
-preamble_fault bytes key stored rollback old new fault asked found =
-    record { asked = asked; fault = found; none = λ told. tt; parts = tt; fits = tt; signed = tt; version = tt }
+pub preamble_fault : {E Preamble Fault : Type 0} (form : Form Preamble Fault) (bytes : List ℕ) (key : PackedKey) (stored : ℕ) (rollback : Bool)
+    (old new : HookState) (fault : Fault) → Asked old new false
+    → (IsTrue old.told → first_fault (table_of form) (preamble_question bytes key stored rollback old) ≡ Some fault)
+    → ChecksPreamble {E = E} form bytes key stored rollback old new (Ok (Err fault))
+preamble_fault form bytes key stored rollback old new fault asked found =
+    record { asked = asked; fault = found; none = λ told. tt; readable = tt; parts = tt; fits = tt; signed = tt; version = tt }
 
-pub preamble_failed : {E : Type 0} (bytes : List ℕ) (key : PackedKey) (stored : ℕ) (rollback : Bool) (old new : HookState) (e : E) → Asked old new true
-    → ChecksPreamble {E = E} bytes key stored rollback old new (Err e)
-preamble_failed bytes key stored rollback old new e asked =
-    record { asked = asked; fault = λ told. tt; none = λ told. tt; parts = tt; fits = tt; signed = tt; version = tt }
+pub preamble_failed : {E Preamble Fault : Type 0} (form : Form Preamble Fault) (bytes : List ℕ) (key : PackedKey) (stored : ℕ) (rollback : Bool)
+    (old new : HookState) (e : E) → Asked old new true → ChecksPreamble {E = E} form bytes key stored rollback old new (Err e)
+preamble_failed form bytes key stored rollback old new e asked =
+    record { asked = asked; fault = λ told. tt; none = λ told. tt; readable = tt; parts = tt; fits = tt; signed = tt; version = tt }
 
-pub preamble_good : {E : Type 0} (bytes : List ℕ) (key : PackedKey) (stored : ℕ) (rollback : Bool) (old new : HookState) (preamble : FwPreamble) → Asked old new false
-    → (IsTrue old.told → first_fault preamble_table (preamble_question bytes key stored rollback old) ≡ None)
-    → Viewed bytes preamble → preamble.version ≤ 65535 → ChecksPreamble {E = E} bytes key stored rollback old new (Ok (Ok preamble))
-preamble_good bytes key stored rollback old new preamble asked none viewed version = record {
-  asked = asked;
+-- a line on the signature, under its name
+pub signature_shown : {E Preamble Fault : Type 0} (form : Form Preamble Fault) (bytes : List ℕ) (key : PackedKey) (stored : ℕ) (rollback : Bool)
+    (old new : HookState) (preamble : Preamble) (found : Option KernelPreambleFault) (fault : KernelPreambleFault) (answer : Fault)
+    → Viewed form bytes preamble
+    → ChecksSignature {E = E} (signature_question (form.common preamble) key stored rollback old) old new (Ok found)
+    → found ≡ Some fault → answer ≡ form.name fault
+    → ChecksPreamble {E = E} form bytes key stored rollback old new (Ok (Err answer))
+signature_shown form bytes key stored rollback old new preamble found fault answer viewed checks is called =
+    preamble_fault form bytes key stored rollback old new answer checks.asked (λ told.
+    by_lines form bytes key stored rollback old preamble viewed ∙ ap (named form.name) (sym (checks.fault told) ∙ is) ∙ ap Some (sym called))
+
+pub preamble_good : {E Preamble Fault : Type 0} (form : Form Preamble Fault) (bytes : List ℕ) (key : PackedKey) (stored : ℕ) (rollback : Bool)
+    (old new : HookState) (preamble : Preamble) (found : Option KernelPreambleFault) → Viewed form bytes preamble
+    → ChecksSignature {E = E} (signature_question (form.common preamble) key stored rollback old) old new (Ok found) → found ≡ None
+    → ChecksPreamble {E = E} form bytes key stored rollback old new (Ok (Ok preamble))
+preamble_good form bytes key stored rollback old new preamble found viewed checks is = record {
+  asked = checks.asked;
   fault = λ told. tt;
-  none = none;
+  none = λ told. by_lines form bytes key stored rollback old preamble viewed ∙ ap (named form.name) (sym (checks.fault told) ∙ is);
+  readable = viewed.none;
   parts = viewed.parts;
   fits = viewed.fits;
   signed = viewed.signed;
-  version = version;
+  version = checks.version is;
 }
+
+pub preamble_answer : {E Preamble Fault : Type 0} (form : Form Preamble Fault) (bytes : List ℕ) (key : PackedKey) (stored : ℕ) (rollback : Bool)
+    (old new : HookState) (result answer : Result (Result Preamble Fault) E)
+    → ChecksPreamble form bytes key stored rollback old new result → result ≡ answer
+    → ChecksPreamble form bytes key stored rollback old new answer
+preamble_answer form bytes key stored rollback old new result answer checks is = subst (ChecksPreamble form bytes key stored rollback old new) is checks

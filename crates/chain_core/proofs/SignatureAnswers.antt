@@ -8,12 +8,14 @@ use Rattle.board_core.specs.Hook.{HookState}
 use Rattle.key_core.specs.Algorithms.{signature_length}
 use Rattle.key_core.specs.declared.key.PackedKey.{PackedKey}
 use Rattle.chain_core.specs.Accepted.{Asked, is_enrolled}
-use Rattle.chain_core.specs.Tables.{lifted, PreambleQuestion, SignatureQuestion, signature_lines, combined_version}
+use Rattle.preamble_core.specs.Lines.{lifted}
+use Rattle.chain_core.specs.Tables.{PreambleQuestion, SignatureQuestion, signature_lines, combined_version}
 use Rattle.chain_core.specs.Checking.{signature_question, ChecksSignature}
-use Rattle.chain_core.specs.declared.fault.SignatureFault.{SignatureFault}
-use Rattle.chain_core.specs.declared.fault.SignatureFault.TheVariants as faults
+use Rattle.preamble_core.specs.Common.{CommonPreamble}
+use Rattle.preamble_core.specs.declared.fault.KernelPreambleFault.{KernelPreambleFault}
+use Rattle.preamble_core.specs.declared.fault.KernelPreambleFault.TheVariants as faults
 use Rattle.chain_core.proofs.FourLines.{of_tests, by_first, by_second, by_third, by_last}
-use Rattle.chain_core.proofs.Lifted.{named, lifted-is, lifted-some, lifted-none, lifted-back, append-none, is_other, is_same, over}
+use Rattle.preamble_core.proofs.Lifted.{named, lifted-is, lifted-some, lifted-none, lifted-back, append-none, is_other, is_same, over}
 
 -- ---- the lines
 
@@ -21,13 +23,13 @@ abbrev size_test : SignatureQuestion → Bool
 size_test q = not (q.signature_size == signature_length q.key.algorithm)
 
 abbrev refused_test : SignatureQuestion → Bool
-refused_test q = not (is_enrolled q.rows q.key q.signed q.signature)
+refused_test q = not (is_enrolled q.rows q.key q.preamble.signed q.preamble.signature)
 
 abbrev range_test : SignatureQuestion → Bool
-range_test q = nat_lt 65535 q.version
+range_test q = nat_lt 65535 q.preamble.version
 
 abbrev pub old_test : SignatureQuestion → Bool
-old_test q = q.rollback && nat_lt (combined_version q.key.version q.version) q.stored
+old_test q = q.rollback && nat_lt (combined_version q.key.version q.preamble.version) q.stored
 
 by_tests : (q : SignatureQuestion) → first_fault signature_lines q ≡ of_tests faults.SigSize faults.Refused faults.VersionRange faults.Rollback (size_test q) (refused_test q) (range_test q) (old_test q)
 by_tests q = refl
@@ -38,7 +40,7 @@ size_fault q other = by_tests q ∙ by_first _ _ _ _ (size_test q) (refused_test
 -- The signature has the right size, and the hook said this.
 pub record Answered (q : SignatureQuestion) (said : Bool) : Type 0 where
   pub size : q.signature_size ≡ signature_length q.key.algorithm
-  pub says : said ≡ is_enrolled q.rows q.key q.signed q.signature
+  pub says : said ≡ is_enrolled q.rows q.key q.preamble.signed q.preamble.signature
 
 size_right : (q : SignatureQuestion) (said : Bool) → Answered q said → size_test q ≡ false
 size_right q said answered = is_same q.signature_size (signature_length q.key.algorithm) answered.size
@@ -50,39 +52,37 @@ pub refused_fault : (q : SignatureQuestion) (said : Bool) → Answered q said �
 refused_fault q said answered e =
     by_tests q ∙ by_second _ _ _ _ (size_test q) (refused_test q) (range_test q) (old_test q) (size_right q said answered) (refused_is q said answered ∙ ap not e)
 
-pub range_fault : (q : SignatureQuestion) (said : Bool) → Answered q said → said ≡ true → 65535 < q.version → first_fault signature_lines q ≡ Some faults.VersionRange
+pub range_fault : (q : SignatureQuestion) (said : Bool) → Answered q said → said ≡ true → 65535 < q.preamble.version → first_fault signature_lines q ≡ Some faults.VersionRange
 range_fault q said answered e large =
-    by_tests q ∙ by_third _ _ _ _ (size_test q) (refused_test q) (range_test q) (old_test q) (size_right q said answered) (refused_is q said answered ∙ ap not e) (over 65535 q.version large)
+    by_tests q ∙ by_third _ _ _ _ (size_test q) (refused_test q) (range_test q) (old_test q) (size_right q said answered) (refused_is q said answered ∙ ap not e) (over 65535 q.preamble.version large)
 
 -- the version fits, so the stored one decides
-pub last_line : (q : SignatureQuestion) (said old : Bool) → Answered q said → said ≡ true → q.version ≤ 65535 → old_test q ≡ old
+pub last_line : (q : SignatureQuestion) (said old : Bool) → Answered q said → said ≡ true → q.preamble.version ≤ 65535 → old_test q ≡ old
     → first_fault signature_lines q ≡ cond old (Some faults.Rollback) None
 last_line q said old answered e fits is =
-    by_tests q ∙ by_last _ _ _ _ (size_test q) (refused_test q) (range_test q) (old_test q) old (size_right q said answered) (refused_is q said answered ∙ ap not e) (le-ltb 65535 q.version fits) is
+    by_tests q ∙ by_last _ _ _ _ (size_test q) (refused_test q) (range_test q) (old_test q) old (size_right q said answered) (refused_is q said answered ∙ ap not e) (le-ltb 65535 q.preamble.version fits) is
 
 -- ---- answers
 
-pub signature_found : {E : Type 0} (q : SignatureQuestion) (old new : HookState) (fault : SignatureFault) → Asked old new false
+pub signature_found : {E : Type 0} (q : SignatureQuestion) (old new : HookState) (fault : KernelPreambleFault) → Asked old new false
     → (IsTrue old.told → first_fault signature_lines q ≡ Some fault) → ChecksSignature {E = E} q old new (Ok (Some fault))
 signature_found q old new fault asked found = record { asked = asked; fault = λ told. sym (found told); version = λ none. absurd cc }
 
 pub signature_good : {E : Type 0} (q : SignatureQuestion) (old new : HookState) → Asked old new false → (IsTrue old.told → first_fault signature_lines q ≡ None)
-    → q.version ≤ 65535 → ChecksSignature {E = E} q old new (Ok None)
+    → q.preamble.version ≤ 65535 → ChecksSignature {E = E} q old new (Ok None)
 signature_good q old new asked none fits = record { asked = asked; fault = λ told. sym (none told); version = λ is. fits }
 
 pub signature_failed : {E : Type 0} (q : SignatureQuestion) (old new : HookState) (e : E) → Asked old new true → ChecksSignature {E = E} q old new (Err e)
 signature_failed q old new e asked = record { asked = asked; fault = λ told. tt; version = tt }
 
--- what was answered, of parts that are those of the call
-pub found_of : {E : Type 0} (signed signed' signature signature' : List ℕ) (version version' : ℕ) (key : PackedKey) (stored : ℕ) (rollback : Bool) (old new : HookState)
-    (result : Result (Option SignatureFault) E) (found : Option SignatureFault) → signed ≡ signed' → signature ≡ signature' → version ≡ version'
-    → ChecksSignature (signature_question signed signature version key stored rollback old) old new result → result ≡ Ok found
-    → ChecksSignature {E = E} (signature_question signed' signature' version' key stored rollback old) old new (Ok found)
-found_of {E} signed signed' signature signature' version version' key stored rollback old new result found s t v checks is =
-    let moved : signature_question signed signature version key stored rollback old ≡ signature_question signed' signature' version' key stored rollback old =
-    λ i. signature_question (s i) (t i) (v i) key stored rollback old in
-    subst (λ (q : SignatureQuestion). ChecksSignature {E = E} q old new (Ok found)) moved
-    (subst (λ (r : Result (Option SignatureFault) E). ChecksSignature (signature_question signed signature version key stored rollback old) old new r) is checks)
+-- what was answered, of a preamble that is the one of the call
+pub found_of : {E : Type 0} (preamble preamble' : CommonPreamble) (key : PackedKey) (stored : ℕ) (rollback : Bool) (old new : HookState)
+    (result : Result (Option KernelPreambleFault) E) (found : Option KernelPreambleFault) → preamble ≡ preamble'
+    → ChecksSignature (signature_question preamble key stored rollback old) old new result → result ≡ Ok found
+    → ChecksSignature {E = E} (signature_question preamble' key stored rollback old) old new (Ok found)
+found_of {E} preamble preamble' key stored rollback old new result found same checks is =
+    subst (λ (p : CommonPreamble). ChecksSignature {E = E} (signature_question p key stored rollback old) old new (Ok found)) same
+    (subst (λ (r : Result (Option KernelPreambleFault) E). ChecksSignature (signature_question preamble key stored rollback old) old new r) is checks)
 
 -- ---- the table of a preamble, whose last lines they are
 
@@ -97,7 +97,7 @@ bytes_fault {Fault} lines further q fault e =
     first_fault-append_some (lifted bytes_of same lines) further q fault (lifted-some bytes_of same lines q fault e)
 
 -- where they show none, the lines on the signature decide
-pub by_signature : {Fault : Type 0} (lines : Table (List ℕ) Fault) (asked : PreambleQuestion → SignatureQuestion) (name : SignatureFault → Fault) (q : PreambleQuestion) (read : SignatureQuestion)
+pub by_signature : {Fault : Type 0} (lines : Table (List ℕ) Fault) (asked : PreambleQuestion → SignatureQuestion) (name : KernelPreambleFault → Fault) (q : PreambleQuestion) (read : SignatureQuestion)
     → first_fault lines q.bytes ≡ None → read ≡ asked q
     → first_fault (lifted (λ q. q.bytes) (λ fault. fault) lines ++ lifted asked name signature_lines) q ≡ named name (first_fault signature_lines read)
 by_signature {Fault} lines asked name q read e is =
@@ -107,25 +107,17 @@ by_signature {Fault} lines asked name q read e is =
     ∙ ap (λ (s : SignatureQuestion). named name (first_fault signature_lines s)) (sym is)
 
 -- and where the preamble has no fault, they find none
-pub no_signature_fault : {Fault : Type 0} (lines : Table (List ℕ) Fault) (asked : PreambleQuestion → SignatureQuestion) (name : SignatureFault → Fault) (q : PreambleQuestion)
+pub no_signature_fault : {Fault : Type 0} (lines : Table (List ℕ) Fault) (asked : PreambleQuestion → SignatureQuestion) (name : KernelPreambleFault → Fault) (q : PreambleQuestion)
     → first_fault (lifted (λ q. q.bytes) (λ fault. fault) lines ++ lifted asked name signature_lines) q ≡ None → first_fault signature_lines (asked q) ≡ None
 no_signature_fault {Fault} lines asked name q e =
     let same : Fault → Fault = λ fault. fault in
     lifted-back asked name signature_lines q (append-none (lifted bytes_of same lines) (lifted asked name signature_lines) q e).1
 
--- what is asked of the parts that were read is asked of those in the bytes
-pub same_signature : (a b : SignatureQuestion) → a.signed ≡ b.signed → a.signature ≡ b.signature → a.signature_size ≡ b.signature_size → a.version ≡ b.version
+-- what is asked of the preamble that was read is asked of the one in the bytes
+pub same_signature : (a b : SignatureQuestion) → a.preamble ≡ b.preamble → a.signature_size ≡ b.signature_size
     → a.rows ≡ b.rows → a.key ≡ b.key → a.stored ≡ b.stored → a.rollback ≡ b.rollback → a ≡ b
-same_signature a b signed signature size version rows key stored rollback = λ i. record {
-  signed = signed i;
-  signature = signature i;
-  signature_size = size i;
-  version = version i;
-  rows = rows i;
-  key = key i;
-  stored = stored i;
-  rollback = rollback i;
-}
+same_signature a b preamble size rows key stored rollback =
+    λ i. record { preamble = preamble i; signature_size = size i; rows = rows i; key = key i; stored = stored i; rollback = rollback i }
 
 -- ---- the stored version
 

@@ -11,12 +11,14 @@ use Rattle.key_core.specs.Keyblocks.{Keyblock, keyblock_in, KeyblockFits, Keyblo
 use Rattle.key_core.specs.declared.key.PackedKey.{PackedKey}
 use Rattle.key_core.specs.declared.keyblock.Seal.TheVariants as seals
 use Rattle.key_core.specs.declared.fault.KeyblockFault.{KeyblockFault}
-use Rattle.preamble_core.specs.Firmware.{FwPreamble, firmware_preamble_in, body_signature_of, FwPreambleFits, FwPreambleIsSigned}
+use Rattle.preamble_core.specs.Common.{body_signature_of}
+use Rattle.preamble_core.specs.declared.common.PreambleKind.TheVariants as kinds
+use Rattle.preamble_core.specs.Firmware.{FwPreamble, firmware_preamble_in, FwPreambleFits, FwPreambleIsSigned}
 use Rattle.preamble_core.specs.declared.fault.FwPreambleFault.{FwPreambleFault}
 use Rattle.rom_core.specs.Gbb.{Looks, area_bytes}
 use Rattle.rom_core.specs.declared.area.Area.{Area}
 use Rattle.chain_core.specs.Accepted.{Asked, key_of}
-use Rattle.chain_core.specs.Tables.{KeyblockQuestion, keyblock_table, PreambleQuestion, preamble_table, BodyQuestion}
+use Rattle.chain_core.specs.Tables.{KeyblockQuestion, keyblock_table, PreambleQuestion, preamble_table, firmware_preamble, BodyQuestion}
 use Rattle.chain_core.specs.Checking.{keyblock_question, view_question, ChecksKeyblock, preamble_question, ChecksPreamble}
 use Rattle.chain_core.specs.Bodies.{is_store, is_hook, body_question}
 use Rattle.chain_core.specs.Slot.{SlotQuestion, slot_keyblock, slot_preamble, slot_body, slot_ok, slot_fault, copy_of, asked_of_keyblock, asked_of_preamble, asked_of_body, FirmwareChain, VerifiesSlot}
@@ -24,6 +26,7 @@ use Rattle.chain_core.specs.declared.fault.Failure.{Failure}
 use Rattle.chain_core.specs.declared.slot_fault.SlotFault.{SlotFault}
 use Rattle.chain_core.specs.declared.slot_fault.SlotOk.{SlotOk}
 use Rattle.chain_core.proofs.Keys.{Known, data_key_known, data_key_range, known_fits}
+use Rattle.chain_core.proofs.PreambleAnswers.{preamble_answer}
 use Rattle.chain_core.proofs.Slots.{Found, Parts, chain_of, no_older, nowhere}
 
 -- ---- answers
@@ -70,7 +73,7 @@ pub record Good (q : SlotQuestion) (flash : FlashState) (hook : HookState) (out 
   pub filled : IsTrue flash.medium.told → out ≡ slot_body q
 
 not_older : (q : SlotQuestion) (ok : SlotOk) → ok ≡ slot_ok q → Found q → IsTrue q.rollback → q.stored ≤ ok.version
-not_older q ok is found checked = subst (λ (o : SlotOk). q.stored ≤ o.version) (sym is) (no_older (asked_of_preamble q) found.preamble checked)
+not_older q ok is found checked = subst (λ (o : SlotOk). q.stored ≤ o.version) (sym is) (no_older firmware_preamble (asked_of_preamble q) found.preamble checked)
 
 pub slot_good : (q : SlotQuestion) (head : List ℕ) (flash flash' : FlashState) (hook hook' : HookState) (out : List ℕ) (ok : SlotOk) → Looks flash flash' false → Asked hook hook' false
     → (IsTrue flash.medium.told → head ≡ q.vblock) → Good (with_head q head) flash hook out ok → VerifiesSlot q flash flash' hook hook' out (Ok (Ok ok))
@@ -127,10 +130,10 @@ pub record GoodPreamble (bytes : List ℕ) (key : PackedKey) (stored : ℕ) (rol
   pub signed : FwPreambleIsSigned preamble
 
 pub good_preamble : {E : Type 0} (bytes : List ℕ) (key : PackedKey) (stored : ℕ) (rollback : Bool) (old new : HookState) (result : Result (Result FwPreamble FwPreambleFault) E) (answer : Result FwPreamble FwPreambleFault) (preamble : FwPreamble)
-    → ChecksPreamble bytes key stored rollback old new result → result ≡ Ok answer → answer ≡ Ok preamble → GoodPreamble bytes key stored rollback old new preamble
+    → ChecksPreamble firmware_preamble bytes key stored rollback old new result → result ≡ Ok answer → answer ≡ Ok preamble → GoodPreamble bytes key stored rollback old new preamble
 good_preamble {E} bytes key stored rollback old new result answer preamble checks is is' =
-    let found : ChecksPreamble {E = E} bytes key stored rollback old new (Ok (Ok preamble)) =
-    subst (λ (a : Result FwPreamble FwPreambleFault). ChecksPreamble {E = E} bytes key stored rollback old new (Ok a)) is' (subst (λ (r : Result (Result FwPreamble FwPreambleFault) E). ChecksPreamble bytes key stored rollback old new r) is checks) in
+    let found : ChecksPreamble {E = E} firmware_preamble bytes key stored rollback old new (Ok (Ok preamble)) =
+    preamble_answer firmware_preamble bytes key stored rollback old new result (Ok (Ok preamble)) checks (is ∙ ap Ok is') in
     record {
       asked = found.asked;
       none = found.none;
@@ -230,17 +233,17 @@ pub same_body : (a b : BodyQuestion) → a.bytes ≡ b.bytes → a.most ≡ b.mo
 same_body a b bytes most len key signature size rows = λ i. record { bytes = bytes i; most = most i; len = len i; key = key i; signature = signature i; signature_size = size i; rows = rows i }
 
 -- what is asked of the body is asked of the slot
-pub body_asked : (s : PreambleStep) (signature : List ℕ) (len : ℕ) → Ready s → length (area_bytes s.main s.flash.medium) ≡ s.main.size → signature ≡ s.preamble.body_signature → len ≡ s.preamble.body_len
+pub body_asked : (s : PreambleStep) (signature : List ℕ) (len : ℕ) → Ready s → length (area_bytes s.main s.flash.medium) ≡ s.main.size → signature ≡ s.preamble.common.body_signature → len ≡ s.preamble.common.body_len
     → body_question s.before.packed signature s.main len s.flash s.hook ≡ asked_of_body s.before.q
 body_asked s signature len ready long is_signature is_len =
     let parts = ready_parts s ready in
     same_body (body_question s.before.packed signature s.main len s.flash s.hook) (asked_of_body s.before.q)
     (sym ready.area)
     (sym long ∙ ap (λ (xs : List ℕ). length xs) (sym ready.area))
-    (is_len ∙ ap (λ (p : FwPreamble). p.body_len) parts)
+    (is_len ∙ ap (λ (p : FwPreamble). p.common.body_len) parts)
     (opened_key s.before ready.opened)
-    (is_signature ∙ ap (λ (p : FwPreamble). p.body_signature) parts)
-    (ap (λ (xs : List ℕ). length xs) is_signature ∙ ready.good.fits.body_signature_length ∙ ap (λ (xs : List ℕ). (body_signature_of xs).size) (opened_rest s.before ready.opened))
+    (is_signature ∙ ap (λ (p : FwPreamble). p.common.body_signature) parts)
+    (ap (λ (xs : List ℕ). length xs) is_signature ∙ ready.good.fits.common.body_signature_length ∙ ap (λ (xs : List ℕ). (body_signature_of kinds.Firmware xs).size) (opened_rest s.before ready.opened))
     (ready.good.asked.rows ∙ ready.opened.good.asked.rows ∙ sym ready.opened.rows)
 
 -- the parts of a slot

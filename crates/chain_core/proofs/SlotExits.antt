@@ -16,7 +16,7 @@ use Rattle.rom_core.proofs.Ranges.{range-front, length-range}
 use Rattle.rom_core.proofs.GbbReads.{looks_then}
 use Rattle.chain_core.specs.Accepted.{Asked}
 use Rattle.chain_core.specs.Tables.{preamble_table, body_table, combined_version}
-use Rattle.chain_core.specs.Checking.{ChecksKeyblock, preamble_question, ChecksPreamble}
+use Rattle.chain_core.specs.Checking.{ChecksKeyblock, preamble_question}
 use Rattle.chain_core.specs.Bodies.{store_failed, hook_failed, ChecksBody}
 use Rattle.chain_core.specs.Slot.{slot_keyblock, slot_preamble, slot_ok, copy_of, slot_fault, asked_of_preamble, asked_of_body}
 use Rattle.chain_core.specs.declared.fault.BodyFault.{BodyFault}
@@ -50,10 +50,6 @@ pub keyblock_answer : {E : Type 0} (bytes : List ℕ) (signer : PackedKey) (stor
     → ChecksKeyblock bytes signer stored rollback old new result → result ≡ answer → ChecksKeyblock bytes signer stored rollback old new answer
 keyblock_answer bytes signer stored rollback old new result answer checks is = subst (ChecksKeyblock bytes signer stored rollback old new) is checks
 
-pub preamble_answer : {E : Type 0} (bytes : List ℕ) (key : PackedKey) (stored : ℕ) (rollback : Bool) (old new : HookState) (result answer : Result (Result FwPreamble FwPreambleFault) E)
-    → ChecksPreamble bytes key stored rollback old new result → result ≡ answer → ChecksPreamble bytes key stored rollback old new answer
-preamble_answer bytes key stored rollback old new result answer checks is = subst (ChecksPreamble bytes key stored rollback old new) is checks
-
 -- the slot shows the preamble's fault
 pub preamble_shown : (s : KeyblockStep) (fault : FwPreambleFault) → Opened s
     → (IsTrue s.hook'.told → first_fault preamble_table (preamble_question s.rest s.packed s.q.stored s.q.rollback s.hook') ≡ Some fault)
@@ -80,8 +76,8 @@ pub record Ended (s : BodyStep) (answer : Result (Option BodyFault) Failure) : T
   pub checks : ChecksBody s.before.before.packed s.signature s.before.main s.len s.before.flash s.flash' s.before.hook s.hook s.out answer
   pub looks : Looks s.flash s.before.flash false
   pub inside : IsTrue s.flash.medium.told → s.before.main.at + s.before.main.size ≤ length s.flash.medium.bytes
-  pub signature_is : s.signature ≡ s.before.preamble.body_signature
-  pub len_is : s.len ≡ s.before.preamble.body_len
+  pub signature_is : s.signature ≡ s.before.preamble.common.body_signature
+  pub len_is : s.len ≡ s.before.preamble.common.body_len
 
 pub ended_of : (s : BodyStep) (result answer : Result (Option BodyFault) Failure) → Ended s result → result ≡ answer → Ended s answer
 ended_of s result answer ended is = subst (Ended s) is ended
@@ -120,7 +116,7 @@ ok_is : (a b : SlotOk) → a.version ≡ b.version → a.body_len ≡ b.body_len
 ok_is a b version body_len subkey = λ i. record { version = version i; body_len = body_len i; subkey = subkey i }
 
 pub good_of : (s : BodyStep) (ok : SlotOk) → Ended s (Ok None)
-    → ok.version ≡ combined_version s.before.before.packed.version s.before.preamble.version → ok.body_len ≡ s.len → Copied s.before.preamble.subkey ok.subkey
+    → ok.version ≡ combined_version s.before.before.packed.version s.before.preamble.common.version → ok.body_len ≡ s.len → Copied s.before.preamble.subkey ok.subkey
     → Good s.before.before.q s.flash s.before.before.hook s.out ok
 good_of s ok ended version body_len subkey =
     let ready = ended.ready in
@@ -128,7 +124,7 @@ good_of s ok ended version body_len subkey =
     let main = s.before.main in
     let preamble = s.before.preamble in
     let is = ready_parts s.before ready in
-    let len_is : s.len ≡ (slot_preamble q).body_len = ended.len_is ∙ ap (λ (p : FwPreamble). p.body_len) is in
+    let len_is : s.len ≡ (slot_preamble q).common.body_len = ended.len_is ∙ ap (λ (p : FwPreamble). p.common.body_len) is in
     record {
       parts = parts_of s.before ready;
       found = λ told told'. record {
@@ -137,7 +133,7 @@ good_of s ok ended version body_len subkey =
         body = ended_found s None ended told told';
       };
       is = ok_is ok (slot_ok q)
-          (version ∙ ap (λ (n : ℕ). combined_version n preamble.version) (ready.opened.copied.version ∙ ap (λ (k : Keyblock). k.data_key.version) ready.opened.good.parts) ∙ ap (λ (p : FwPreamble). combined_version (slot_keyblock q).data_key.version p.version) is)
+          (version ∙ ap (λ (n : ℕ). combined_version n preamble.common.version) (ready.opened.copied.version ∙ ap (λ (k : Keyblock). k.data_key.version) ready.opened.good.parts) ∙ ap (λ (p : FwPreamble). combined_version (slot_keyblock q).data_key.version p.common.version) is)
           (body_len ∙ len_is)
           (copied_whole preamble.subkey ok.subkey subkey ∙ ap (λ (p : FwPreamble). copy_of p.subkey) is);
       many = ended.checks.many ∙ sym body_len;
@@ -145,5 +141,5 @@ good_of s ok ended version body_len subkey =
           ended.checks.filled (ap (λ (m : FlashMedium). m.told) ended.looks.medium ∙ told)
           ∙ range-front s.before.flash.medium.bytes main.at main.size s.len ended.checks.within
           ∙ ap (λ (n : ℕ). take n (area_bytes main s.before.flash.medium)) len_is
-          ∙ ap (take (slot_preamble q).body_len) (sym ready.area);
+          ∙ ap (take (slot_preamble q).common.body_len) (sym ready.area);
     }

@@ -10,19 +10,21 @@ use Rattle.key_core.specs.Parts.{Key}
 use Rattle.key_core.specs.Keyblocks.{keyblock_lines, KeyblockFits, KeyblockIsSigned}
 use Rattle.key_core.specs.declared.keyblock.Seal.TheVariants as seals
 use Rattle.key_core.specs.declared.fault.KeyblockFault.{KeyblockFault}
-use Rattle.preamble_core.specs.Firmware.{firmware_lines, FwPreambleFits, FwPreambleIsSigned}
+use Rattle.preamble_core.specs.Common.{common_in, signature_of}
+use Rattle.preamble_core.specs.Firmware.{FwPreambleFits, FwPreambleIsSigned}
 use Rattle.preamble_core.specs.declared.fault.FwPreambleFault.{FwPreambleFault}
 use Rattle.chain_core.specs.Hashing.{message_digest}
 use Rattle.chain_core.specs.Accepted.{Accepts, key_of, is_enrolled}
-use Rattle.chain_core.specs.Tables.{lifted, KeyblockQuestion, keyblock_of, keyblock_table, signer_lines, signer_question, seal_lines, data_key_lines, data_key_question, PreambleQuestion, preamble_of, SignatureQuestion, asked_of_signature, firmware_line, signature_lines, preamble_table, combined_version, BodyQuestion, body_table}
+use Rattle.preamble_core.specs.Lines.{lifted}
+use Rattle.chain_core.specs.Tables.{KeyblockQuestion, keyblock_of, keyblock_table, signer_lines, signer_question, seal_lines, data_key_lines, data_key_question, PreambleQuestion, SignatureQuestion, asked_of_signature, signature_lines, Form, table_of, preamble_table, firmware_preamble, combined_version, BodyQuestion, body_table}
 use Rattle.chain_core.specs.Slot.{SlotQuestion, slot_keyblock, slot_preamble, asked_of_keyblock, asked_of_preamble, asked_of_body, slot_table, slot_fault, FirmwareChain}
 use Rattle.chain_core.specs.declared.fault.BodyFault.{BodyFault}
 use Rattle.chain_core.specs.declared.slot_fault.SlotFault.{SlotFault}
 use Rattle.chain_core.specs.declared.slot_fault.SlotFault.TheVariants as slot_faults
 use Rattle.chain_core.proofs.Keys.{Known, signer_known}
-use Rattle.chain_core.proofs.Lifted.{lifted-none, lifted-some, lifted-back, append-none, is_equal, not_over}
+use Rattle.preamble_core.proofs.Lifted.{lifted-none, lifted-some, lifted-back, append-none, is_equal, not_over}
 use Rattle.chain_core.proofs.Rows.{is_enrolled-Decides}
-use Rattle.chain_core.proofs.SignatureAnswers.{no_signature_fault}
+use Rattle.chain_core.proofs.PreambleAnswers.{no_fault_of_signature}
 
 -- ---- the table of a slot
 
@@ -90,13 +92,9 @@ accepts_keyblock q e room fits =
       row = enrolled_row q.rows (key_of q.signer) (keyblock_of q).signed (keyblock_of q).seal_bytes seal.1.0;
     }
 
-further_preamble : (q : PreambleQuestion) → first_fault preamble_table q ≡ None → first_fault signature_lines (asked_of_signature q) ≡ None
-unfolding preamble_table
-further_preamble q e = no_signature_fault firmware_lines asked_of_signature firmware_line q e
-
 -- where the lines on a signature find no fault, it is accepted
-pub accepts_signature : (q : SignatureQuestion) → first_fault signature_lines q ≡ None → Known q.key.algorithm (length q.key.bytes) → length q.signature ≡ q.signature_size
-    → Accepts q.rows q.key q.signature q.signed
+pub accepts_signature : (q : SignatureQuestion) → first_fault signature_lines q ≡ None → Known q.key.algorithm (length q.key.bytes)
+    → length q.preamble.signature ≡ q.signature_size → Accepts q.rows q.key q.preamble.signature q.preamble.signed
 accepts_signature q e known long =
     let none = first_fault-none signature_lines q e in
     record {
@@ -104,18 +102,21 @@ accepts_signature q e known long =
       not_sha1 = known.not_sha1;
       key_size = known.size_is;
       signature_size = long ∙ is_equal _ _ none.0;
-      row = enrolled_row q.rows q.key q.signed q.signature none.1.0;
+      row = enrolled_row q.rows q.key q.preamble.signed q.preamble.signature none.1.0;
     }
 
-accepts_preamble : (q : PreambleQuestion) → first_fault preamble_table q ≡ None → Known q.key.algorithm (length q.key.bytes) → FwPreambleFits q.bytes (preamble_of q)
-    → Accepts q.rows q.key (preamble_of q).signature (preamble_of q).signed
-accepts_preamble q e known fits = accepts_signature (asked_of_signature q) (further_preamble q e) known fits.signature_length
+-- so the signature of a preamble without a fault is
+pub accepts_preamble : {Preamble Fault : Type 0} (form : Form Preamble Fault) (q : PreambleQuestion) → first_fault (table_of form) q ≡ None
+    → Known q.key.algorithm (length q.key.bytes) → length (common_in form.kind q.bytes).signature ≡ (signature_of q.bytes).size
+    → Accepts q.rows q.key (common_in form.kind q.bytes).signature (common_in form.kind q.bytes).signed
+accepts_preamble form q e known long = accepts_signature (asked_of_signature form.kind q) (no_fault_of_signature form q e) known long
 
 -- where versions are checked, that of the slot is not under the stored one
-pub no_older : (q : PreambleQuestion) → first_fault preamble_table q ≡ None → IsTrue q.rollback → q.stored ≤ combined_version q.key.version (preamble_of q).version
-no_older q e checked =
-    let none = first_fault-none signature_lines (asked_of_signature q) (further_preamble q e) in
-    let version = combined_version q.key.version (preamble_of q).version in
+pub no_older : {Preamble Fault : Type 0} (form : Form Preamble Fault) (q : PreambleQuestion) → first_fault (table_of form) q ≡ None
+    → IsTrue q.rollback → q.stored ≤ combined_version q.key.version (common_in form.kind q.bytes).version
+no_older form q e checked =
+    let none = first_fault-none signature_lines (asked_of_signature form.kind q) (no_fault_of_signature form q e) in
+    let version = combined_version q.key.version (common_in form.kind q.bytes).version in
     not_over version q.stored (subst (λ (b : Bool). (b && nat_lt version q.stored) ≡ false) checked none.1.1.1.0)
 
 body_signed : (q : BodyQuestion) → first_fault body_table q ≡ None → (not (q.signature_size == signature_length q.key.algorithm) ≡ false) × (not (is_enrolled q.rows q.key (take q.len q.bytes) q.signature) ≡ false)
@@ -153,7 +154,7 @@ pub chain_of : (q : SlotQuestion) → Parts q → Found q → FirmwareChain q
 chain_of q parts found = record {
   keyblock = accepts_keyblock (asked_of_keyblock q) found.keyblock parts.root parts.keyblock_fits;
   keyblock_signed = parts.keyblock_signed;
-  preamble = accepts_preamble (asked_of_preamble q) found.preamble parts.key parts.preamble_fits;
+  preamble = accepts_preamble firmware_preamble (asked_of_preamble q) found.preamble parts.key parts.preamble_fits.common.signature_length;
   preamble_signed = parts.preamble_signed;
-  body = accepts_body (asked_of_body q) found.body parts.key parts.preamble_fits.body_signature_length;
+  body = accepts_body (asked_of_body q) found.body parts.key parts.preamble_fits.common.body_signature_length;
 }

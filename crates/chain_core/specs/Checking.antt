@@ -7,11 +7,11 @@ use Rattle.key_core.specs.Keyblocks.{Keyblock, keyblock_in, KeyblockFits, Keyblo
 use Rattle.key_core.specs.declared.key.PackedKey.{PackedKey}
 use Rattle.key_core.specs.declared.keyblock.Seal.TheVariants as seals
 use Rattle.key_core.specs.declared.fault.KeyblockFault.{KeyblockFault}
-use Rattle.preamble_core.specs.Firmware.{FwPreamble, firmware_preamble_in, FwPreambleFits, FwPreambleIsSigned}
-use Rattle.preamble_core.specs.declared.fault.FwPreambleFault.{FwPreambleFault}
+use Rattle.preamble_core.specs.Common.{CommonPreamble}
+use Rattle.preamble_core.specs.declared.fault.KernelPreambleFault.{KernelPreambleFault}
 use Rattle.chain_core.specs.Accepted.{Asked, key_of}
-use Rattle.chain_core.specs.declared.fault.SignatureFault.{SignatureFault}
-use Rattle.chain_core.specs.Tables.{KeyblockQuestion, keyblock_table, PreambleQuestion, preamble_table, SignatureQuestion, signature_lines, DataKeyQuestion, data_key_lines}
+use Rattle.chain_core.specs.Tables.{KeyblockQuestion, keyblock_table, PreambleQuestion, SignatureQuestion, signature_lines, Form, table_of}
+use Rattle.chain_core.specs.Tables.{DataKeyQuestion, data_key_lines}
 
 -- what is asked of the keyblock that these bytes begin, of a hook
 abbrev pub keyblock_question : List ℕ → PackedKey → (stored : ℕ) → (rollback : Bool) → HookState → KeyblockQuestion
@@ -66,14 +66,11 @@ preamble_question bytes key stored rollback hook = record {
   rollback = rollback;
 }
 
--- what is asked of a signature of these bytes, of a hook
-abbrev pub signature_question : (signed signature : List ℕ) → (version : ℕ) → PackedKey → (stored : ℕ) → (rollback : Bool) → HookState
-    → SignatureQuestion
-signature_question signed signature version key stored rollback hook = record {
-  signed = signed;
-  signature = signature;
-  signature_size = length signature;
-  version = version;
+-- what is asked of the signature of a preamble, of a hook
+abbrev pub signature_question : CommonPreamble → PackedKey → (stored : ℕ) → (rollback : Bool) → HookState → SignatureQuestion
+signature_question preamble key stored rollback hook = record {
+  preamble = preamble;
+  signature_size = length preamble.signature;
   rows = hook.rows;
   key = key_of key;
   stored = stored;
@@ -82,30 +79,32 @@ signature_question signed signature version key stored rollback hook = record {
 
 -- The call to check the signature of a preamble, and the version that it signs.
 pub record ChecksSignature {E : Type 0} (q : SignatureQuestion)
-    (old new : HookState) (result : Result (Option SignatureFault) E) : Type 0 where
+    (old new : HookState) (result : Result (Option KernelPreambleFault) E) : Type 0 where
   -- a hook that failed counted it once, and it holds what it held
   pub asked : Asked old new (is_err result)
   -- the answer is the first fault of the lines
   pub fault : IsTrue old.told → IfOk result (λ found. found ≡ first_fault signature_lines q)
   -- where it is none, the version fits 16 bits, told or not
-  pub version : IfOk result (λ found. found ≡ None → q.version ≤ 65535)
+  pub version : IfOk result (λ found. found ≡ None → q.preamble.version ≤ 65535)
 
--- The call to check a firmware preamble.
-pub record ChecksPreamble {E : Type 0} (bytes : List ℕ) (key : PackedKey) (stored : ℕ) (rollback : Bool)
-    (old new : HookState) (result : Result (Result FwPreamble FwPreambleFault) E) : Type 0 where
+-- The call to check a preamble of a form.
+pub record ChecksPreamble {E Preamble Fault : Type 0} (form : Form Preamble Fault) (bytes : List ℕ) (key : PackedKey)
+    (stored : ℕ) (rollback : Bool) (old new : HookState) (result : Result (Result Preamble Fault) E) : Type 0 where
   -- a hook that failed counted it once, and it holds what it held
   pub asked : Asked old new (is_err result)
   -- a fault is the first of the table
   pub fault : IsTrue old.told → IfOk result (λ answer. IfErr answer (λ fault.
-      first_fault preamble_table (preamble_question bytes key stored rollback old) ≡ Some fault))
+      first_fault (table_of form) (preamble_question bytes key stored rollback old) ≡ Some fault))
   -- a preamble is answered only where none of its tests holds
   pub none : IsTrue old.told → IfOk result (λ answer. OnOk answer (
-      first_fault preamble_table (preamble_question bytes key stored rollback old) ≡ None))
+      first_fault (table_of form) (preamble_question bytes key stored rollback old) ≡ None))
+  -- the first lines look at the bytes alone
+  pub readable : IfOk result (λ answer. OnOk answer (first_fault form.lines bytes ≡ None))
   -- and is what the bytes hold, told or not
-  pub parts : IfOk result (λ answer. IfOk answer (λ preamble. preamble ≡ firmware_preamble_in bytes))
+  pub parts : IfOk result (λ answer. IfOk answer (λ preamble. preamble ≡ form.parts bytes))
   -- its parts lie in the bytes
-  pub fits : IfOk result (λ answer. IfOk answer (FwPreambleFits bytes))
+  pub fits : IfOk result (λ answer. IfOk answer (form.Fits bytes))
   -- all of it but the signature is read from what is signed
-  pub signed : IfOk result (λ answer. IfOk answer FwPreambleIsSigned)
+  pub signed : IfOk result (λ answer. IfOk answer form.IsSigned)
   -- and its version fits 16 bits
-  pub version : IfOk result (λ answer. IfOk answer (λ preamble. preamble.version ≤ 65535))
+  pub version : IfOk result (λ answer. IfOk answer (λ preamble. (form.common preamble).version ≤ 65535))

@@ -11,12 +11,15 @@ use Rattle.key_core.specs.Keyblocks.{Keyblock, keyblock_in, KeyblockIsSigned}
 use Rattle.key_core.specs.declared.key.PackedKey.{PackedKey}
 use Rattle.key_core.specs.declared.key.TheConstants.{LARGEST_KEY}
 use Rattle.key_core.specs.declared.keyblock.Seal.TheVariants as seals
-use Rattle.preamble_core.specs.Firmware.{FwPreamble, firmware_preamble_in, body_signature_of, FwPreambleIsSigned}
+use Rattle.preamble_core.specs.Common.{body_signature_of}
+use Rattle.preamble_core.specs.Firmware.{FwPreamble, firmware_preamble_in, FwPreambleIsSigned}
+use Rattle.preamble_core.specs.Lines.{lifted}
+use Rattle.preamble_core.specs.declared.common.PreambleKind.TheVariants as kinds
 use Rattle.rom_core.specs.Gbb.{Looks, area_bytes}
 use Rattle.rom_core.specs.declared.area.Area.{Area}
 use Rattle.chain_core.specs.Accepted.{Accepts, Asked, key_of}
 use Rattle.chain_core.specs.Bodies.{store_failed, hook_failed}
-use Rattle.chain_core.specs.Tables.{lifted, KeyblockQuestion, keyblock_table, PreambleQuestion, preamble_table, BodyQuestion, body_table, combined_version}
+use Rattle.chain_core.specs.Tables.{KeyblockQuestion, keyblock_table, PreambleQuestion, preamble_table, BodyQuestion, body_table, combined_version}
 use Rattle.chain_core.specs.declared.fault.Failure.{Failure}
 use Rattle.chain_core.specs.declared.slot_fault.SlotFault.{SlotFault}
 use Rattle.chain_core.specs.declared.slot_fault.SlotFault.TheVariants as slot_faults
@@ -47,7 +50,7 @@ slot_preamble q = firmware_preamble_in (behind_keyblock q)
 
 -- the body is what its area begins with
 abbrev pub slot_body : SlotQuestion → List ℕ
-slot_body q = take (slot_preamble q).body_len q.main
+slot_body q = take (slot_preamble q).common.body_len q.main
 
 -- ---- the table
 
@@ -70,10 +73,10 @@ abbrev pub asked_of_body : SlotQuestion → BodyQuestion
 asked_of_body q = record {
   bytes = q.main;
   most = length q.main;
-  len = (slot_preamble q).body_len;
+  len = (slot_preamble q).common.body_len;
   key = (slot_keyblock q).data_key;
-  signature = (slot_preamble q).body_signature;
-  signature_size = (body_signature_of (behind_keyblock q)).size;
+  signature = (slot_preamble q).common.body_signature;
+  signature_size = (body_signature_of kinds.Firmware (behind_keyblock q)).size;
   rows = q.rows;
 }
 
@@ -90,14 +93,14 @@ slot_fault q = first_fault slot_table q
 -- ---- a good slot
 
 abbrev pub slot_version : SlotQuestion → ℕ
-slot_version q = combined_version (slot_keyblock q).data_key.version (slot_preamble q).version
+slot_version q = combined_version (slot_keyblock q).data_key.version (slot_preamble q).common.version
 
 -- a copy of a key
 abbrev pub copy_of : Key → PackedKey
 copy_of key = record { algorithm = key.algorithm; version = key.version; size = length key.bytes; bytes = padded LARGEST_KEY key.bytes }
 
 abbrev pub slot_ok : SlotQuestion → SlotOk
-slot_ok q = record { version = slot_version q; body_len = (slot_preamble q).body_len; subkey = copy_of (slot_preamble q).subkey }
+slot_ok q = record { version = slot_version q; body_len = (slot_preamble q).common.body_len; subkey = copy_of (slot_preamble q).subkey }
 
 -- The chain of a firmware slot: three signatures are accepted, and each key and signature that is used next is read from
 -- what was signed.
@@ -107,11 +110,11 @@ pub record FirmwareChain (q : SlotQuestion) : Type 0 where
   -- of which the data key is signed
   pub keyblock_signed : KeyblockIsSigned (slot_keyblock q)
   -- the data key signed the preamble
-  pub preamble : Accepts q.rows (slot_keyblock q).data_key (slot_preamble q).signature (slot_preamble q).signed
+  pub preamble : Accepts q.rows (slot_keyblock q).data_key (slot_preamble q).common.signature (slot_preamble q).common.signed
   -- of which subkey and body signature are signed
   pub preamble_signed : FwPreambleIsSigned (slot_preamble q)
   -- and the data key signed the body
-  pub body : Accepts q.rows (slot_keyblock q).data_key (slot_preamble q).body_signature (slot_body q)
+  pub body : Accepts q.rows (slot_keyblock q).data_key (slot_preamble q).common.body_signature (slot_body q)
 
 -- ---- the call
 

@@ -2,7 +2,7 @@
 -- further ones, which look at a key, at the rows of a hook and at the stored version.
 -- Source: `vb2_verify_keyblock`, `vb2_load_fw_keyblock`, `vb2_verify_fw_preamble`, `vb2_load_fw_preamble` and
 -- `vb2api_check_hash` of vboot_reference (firmware/2lib).
-use Rattle.std.specs.Prelude.{ℕ, ◌+◌, ◌*◌, ◌/◌, Bool, not, ◌&&◌, List, [], ◌∷◌, ◌++◌, take, map, nat_lt, ◌==◌}
+use Rattle.std.specs.Prelude.{ℕ, ◌+◌, ◌*◌, ◌/◌, Bool, not, ◌&&◌, List, [], ◌∷◌, ◌++◌, take, nat_lt, ◌==◌}
 use Rattle.wire_core.specs.FirstFault.{Table, line}
 use Rattle.board_core.specs.declared.hook_row.HookRow.{HookRow}
 use Rattle.key_core.specs.Algorithms.{KeyQuestion, is_sha1, key_length, signature_length}
@@ -13,18 +13,17 @@ use Rattle.key_core.specs.declared.key.PackedKey.{PackedKey}
 use Rattle.key_core.specs.declared.keyblock.Seal.TheVariants as seals
 use Rattle.key_core.specs.declared.fault.KeyblockFault.{KeyblockFault}
 use Rattle.key_core.specs.declared.fault.KeyblockFault.TheVariants as keyblock_faults
-use Rattle.preamble_core.specs.Firmware.{FwPreamble, firmware_lines, firmware_preamble_in, signature_of}
+use Rattle.preamble_core.specs.Common.{CommonPreamble, common_in, signature_of}
+use Rattle.preamble_core.specs.Firmware.{FwPreamble, firmware_lines, firmware_preamble_in, FwPreambleFits, FwPreambleIsSigned}
+use Rattle.preamble_core.specs.Lines.{lifted, firmware_line}
+use Rattle.preamble_core.specs.declared.common.PreambleKind.{PreambleKind}
+use Rattle.preamble_core.specs.declared.common.PreambleKind.TheVariants as kinds
 use Rattle.preamble_core.specs.declared.fault.FwPreambleFault.{FwPreambleFault}
-use Rattle.preamble_core.specs.declared.fault.FwPreambleFault.TheVariants as preamble_faults
+use Rattle.preamble_core.specs.declared.fault.KernelPreambleFault.{KernelPreambleFault}
+use Rattle.preamble_core.specs.declared.fault.KernelPreambleFault.TheVariants as preamble_faults
 use Rattle.chain_core.specs.Accepted.{key_of, is_enrolled}
 use Rattle.chain_core.specs.declared.fault.BodyFault.{BodyFault}
 use Rattle.chain_core.specs.declared.fault.BodyFault.TheVariants as body_faults
-use Rattle.chain_core.specs.declared.fault.SignatureFault.{SignatureFault}
-use Rattle.chain_core.specs.declared.fault.SignatureFault.TheVariants as signature_faults
-
--- the lines of a table over a part of what is asked, each fault under its name in the whole
-abbrev pub lifted : {Whole Part Fault Named : Type 0} → (Whole → Part) → (Fault → Named) → Table Part Fault → Table Whole Named
-lifted part name lines = map (λ l. line (name l.fault) (λ whole. l.test (part whole))) lines
 
 -- ---- a keyblock, read by its signature
 
@@ -106,25 +105,20 @@ pub record PreambleQuestion : Type 0 where
   pub stored : ℕ
   pub rollback : Bool
 
--- what is asked of its signature: the bytes that are signed, the signature with the size that its field says, the version
--- that it signs, and the same as of the preamble
+-- what is asked of its signature: what both preambles have, the size that its field says, and the same as of the preamble
 pub record SignatureQuestion : Type 0 where
-  pub signed : List ℕ
-  pub signature : List ℕ
+  pub preamble : CommonPreamble
   pub signature_size : ℕ
-  pub version : ℕ
   pub rows : List HookRow
   pub key : Key
   pub stored : ℕ
   pub rollback : Bool
 
--- the same of a preamble with these parts
-abbrev pub parts_question : (signed signature : List ℕ) → (size version : ℕ) → PreambleQuestion → SignatureQuestion
-parts_question signed signature size version q = record {
-  signed = signed;
-  signature = signature;
-  signature_size = size;
-  version = version;
+-- the same of the preamble of a kind that the bytes begin with
+abbrev pub asked_of_signature : PreambleKind → PreambleQuestion → SignatureQuestion
+asked_of_signature kind q = record {
+  preamble = common_in kind q.bytes;
+  signature_size = (signature_of q.bytes).size;
   rows = q.rows;
   key = q.key;
   stored = q.stored;
@@ -135,38 +129,44 @@ parts_question signed signature size version q = record {
 abbrev pub combined_version : (key firmware : ℕ) → ℕ
 combined_version key firmware = key * 65536 + firmware
 
--- the last four lines: the signature, and the version
-abbrev pub signature_lines : Table SignatureQuestion SignatureFault
+-- the last four lines of both tables: the signature, and the version
+abbrev pub signature_lines : Table SignatureQuestion KernelPreambleFault
 signature_lines =
-    line signature_faults.SigSize (λ q. not (q.signature_size == signature_length q.key.algorithm))
-    ∷ line signature_faults.Refused (λ q. not (is_enrolled q.rows q.key q.signed q.signature))
-    ∷ line signature_faults.VersionRange (λ q. nat_lt 65535 q.version)
-    ∷ line signature_faults.Rollback (λ q. q.rollback && nat_lt (combined_version q.key.version q.version) q.stored)
+    line preamble_faults.SigSize (λ q. not (q.signature_size == signature_length q.key.algorithm))
+    ∷ line preamble_faults.Refused (λ q. not (is_enrolled q.rows q.key q.preamble.signed q.preamble.signature))
+    ∷ line preamble_faults.VersionRange (λ q. nat_lt 65535 q.preamble.version)
+    ∷ line preamble_faults.Rollback (λ q. q.rollback && nat_lt (combined_version q.key.version q.preamble.version) q.stored)
     ∷ []
 
--- ---- a firmware preamble
+-- A form of preamble: its kind, the lines of its table that look at the bytes alone, the names of the lines of both tables in
+-- it, its parts in the bytes, what it has in common with the other form, how long its parts are, and that they are signed.
+pub record Form (Preamble Fault : Type 0) : Type 1 where
+  pub kind : PreambleKind
+  pub lines : Table (List ℕ) Fault
+  pub name : KernelPreambleFault → Fault
+  pub parts : List ℕ → Preamble
+  pub common : Preamble → CommonPreamble
+  pub Fits : List ℕ → Preamble → Type 0
+  pub IsSigned : Preamble → Type 0
 
--- the parts of the preamble
-abbrev pub preamble_of : PreambleQuestion → FwPreamble
-preamble_of q = firmware_preamble_in q.bytes
+-- the table of a form: the lines that look at the bytes alone, and the last four
+unfoldable pub table_of : {Preamble Fault : Type 0} → Form Preamble Fault → Table PreambleQuestion Fault
+table_of form = lifted (λ q. q.bytes) (λ fault. fault) form.lines ++ lifted (asked_of_signature form.kind) form.name signature_lines
 
-abbrev pub asked_of_signature : PreambleQuestion → SignatureQuestion
-asked_of_signature q = parts_question (preamble_of q).signed (preamble_of q).signature (signature_of q.bytes).size (preamble_of q).version q
+-- a firmware preamble, of which lines 1 to 8 look at the bytes alone
+abbrev pub firmware_preamble : Form FwPreamble FwPreambleFault
+firmware_preamble = record {
+  kind = kinds.Firmware;
+  lines = firmware_lines;
+  name = firmware_line;
+  parts = firmware_preamble_in;
+  common = λ preamble. preamble.common;
+  Fits = FwPreambleFits;
+  IsSigned = FwPreambleIsSigned;
+}
 
--- the name of a line on the signature in the table of a firmware preamble
-abbrev pub firmware_line : SignatureFault → FwPreambleFault
-firmware_line signature_faults.SigSize = preamble_faults.SigSize
-firmware_line signature_faults.Refused = preamble_faults.Refused
-firmware_line signature_faults.VersionRange = preamble_faults.VersionRange
-firmware_line signature_faults.Rollback = preamble_faults.Rollback
-
--- lines 9 to 12
-abbrev pub further_preamble_lines : Table PreambleQuestion FwPreambleFault
-further_preamble_lines = lifted asked_of_signature firmware_line signature_lines
-
--- the firmware preamble table: lines 1 to 8, which look at the bytes alone, and lines 9 to 12
-unfoldable pub preamble_table : Table PreambleQuestion FwPreambleFault
-preamble_table = lifted (λ q. q.bytes) (λ fault. fault) firmware_lines ++ further_preamble_lines
+abbrev pub preamble_table : Table PreambleQuestion FwPreambleFault
+preamble_table = table_of firmware_preamble
 
 -- ---- a body
 

@@ -1,18 +1,4 @@
-// What can be wrong with the signature of a preamble and with a body, and which object failed.
-
-/// What is wrong with the signature of a preamble, or with the version that it signs: the last four lines of the tables of
-/// firmware preambles and of kernel preambles, in their order.
-#[derive(Clone, Copy, Debug, PartialEq, Eq)]
-pub enum SignatureFault {
-    /// The signature has not the length of the data key's algorithm.
-    SigSize,
-    /// The signature is not one of what is signed.
-    Refused,
-    /// The version does not fit 16 bits.
-    VersionRange,
-    /// The version word, which the data key's version and this one make, is less than the stored one.
-    Rollback,
-}
+// What can be wrong with a body, and which object failed.
 
 /// What is wrong with a body, numbered by the lines of the body table. The fault of a body is the first line whose test
 /// holds.

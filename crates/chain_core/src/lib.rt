@@ -17,7 +17,7 @@ mod slot;
 mod slot_fault;
 
 pub use body::verify_flash_body;
-pub use fault::{BodyFault, Failure, SignatureFault};
+pub use fault::{BodyFault, Failure};
 pub use hasher::{Hasher, is_signed};
 pub use keyblock::{LARGEST_VERSION, data_key_fault, verify_keyblock};
 pub use preamble::{combined_version, signature_fault, verify_preamble};

@@ -55,18 +55,19 @@ fn check_slot<F: Flash, H: Hook>(
         Ok(Err(fault)) => return Ok(Err(SlotFault::Preamble(fault))),
         Err(Failed) => return Err(Failure::Hook),
     };
-    let body_len = preamble.body_len();
+    let common = preamble.common();
+    let body_len = common.body_len();
     match verify_flash_body(
         flash,
         hook,
         &key,
-        preamble.body_signature(),
+        common.body_signature(),
         main,
         body_len,
         body,
     ) {
         Ok(None) => Ok(Ok(SlotOk {
-            version: combined_version(key.version, preamble.version()),
+            version: combined_version(key.version, common.version()),
             body_len,
             subkey: pack(&preamble.subkey()),
         })),

@@ -13,19 +13,19 @@ use Rattle.key_core.specs.declared.keyblock.Seal.TheVariants as seals
 use Rattle.key_core.specs.declared.fault.KeyblockFault.{KeyblockFault}
 use Rattle.preamble_core.specs.Kernel.{KernelPreamble, kernel_lines, kernel_preamble_in, KernelPreambleFits, KernelPreambleIsSigned}
 use Rattle.preamble_core.specs.declared.fault.KernelPreambleFault.{KernelPreambleFault}
-use Rattle.chain_core.specs.Accepted.{Accepts, Asked, key_of}
-use Rattle.chain_core.specs.Tables.{lifted, keyblock_table, PreambleQuestion, combined_version}
-use Rattle.chain_core.specs.Checking.{preamble_question}
+use Rattle.chain_core.specs.Accepted.{Asked, key_of}
+use Rattle.preamble_core.specs.Lines.{lifted}
+use Rattle.chain_core.specs.Tables.{keyblock_table, PreambleQuestion, combined_version}
+use Rattle.chain_core.specs.Checking.{preamble_question, ChecksPreamble}
 use Rattle.chain_core.proofs.Keys.{Known, key_most}
-use Rattle.chain_core.proofs.Lifted.{lifted-back, append-none}
+use Rattle.preamble_core.proofs.Lifted.{lifted-back, append-none}
 use Rattle.chain_core.proofs.Said.{asked_then, told_then}
-use Rattle.chain_core.proofs.SignatureAnswers.{no_signature_fault}
 use Rattle.chain_core.proofs.SlotAnswers.{Copied, copied_key, same_preamble}
-use Rattle.chain_core.proofs.Slots.{accepts_keyblock, accepts_signature}
+use Rattle.chain_core.proofs.Slots.{accepts_keyblock, accepts_preamble}
 use Rattle.kernel_core.specs.Rules.{hash_is_enough, versions_are_checked}
-use Rattle.kernel_core.specs.KernelTables.{KernelKeyblockQuestion, signed_question, flag_lines, flag_question, signed_table, hashed_table, is_unsigned, kernel_keyblock_fault, preamble_of, asked_of_signature, kernel_line, kernel_preamble_table}
+use Rattle.kernel_core.specs.KernelTables.{KernelKeyblockQuestion, signed_question, flag_lines, flag_question, signed_table, hashed_table, is_unsigned, kernel_keyblock_fault, kernel_preamble, kernel_preamble_table}
 use Rattle.kernel_core.specs.Heads.{head_key, behind_keyblock, head_preamble, IsUsableKey, IsHeadOf, HeadQuestion, asked_of_keyblock, asked_of_preamble, first_of, head_fault, head_ok, KeyblockAccepted}
-use Rattle.kernel_core.specs.HeadChecks.{KernelKeyblockRead, ReadBySignature, ChecksKernelKeyblock, kernel_keyblock_question, ChecksKernelPreamble, head_question, VerifiesHead}
+use Rattle.kernel_core.specs.HeadChecks.{KernelKeyblockRead, ReadBySignature, ChecksKernelKeyblock, kernel_keyblock_question, head_question, VerifiesHead}
 use Rattle.kernel_core.specs.declared.rules.KernelRules.{KernelRules}
 use Rattle.kernel_core.specs.declared.head_fault.HeadFault.{HeadFault}
 use Rattle.kernel_core.specs.declared.head_fault.HeadFault.TheVariants as head_faults
@@ -100,11 +100,7 @@ preamble_asked s opened =
     same_preamble (preamble_question s.rest s.packed s.rules.stored s.checked s.hook') (asked_of_preamble (asked_head s))
     (opened_rest s opened) opened.good.asked.rows (opened_key s opened) refl opened.checked
 
-pub preamble_answer : {E : Type 0} (rest : List ℕ) (packed : PackedKey) (stored : ℕ) (checked : Bool) (old new : HookState) (result answer : Result (Result KernelPreamble KernelPreambleFault) E)
-    → ChecksKernelPreamble rest packed stored checked old new result → result ≡ answer → ChecksKernelPreamble rest packed stored checked old new answer
-preamble_answer rest packed stored checked old new result answer checks is = subst (ChecksKernelPreamble rest packed stored checked old new) is checks
-
-pub preamble_shown : {E : Type 0} (s : HeadStep) (new : HookState) (fault : KernelPreambleFault) → Opened s → ChecksKernelPreamble {E = E} s.rest s.packed s.rules.stored s.checked s.hook' new (Ok (Err fault))
+pub preamble_shown : {E : Type 0} (s : HeadStep) (new : HookState) (fault : KernelPreambleFault) → Opened s → ChecksPreamble {E = E} kernel_preamble s.rest s.packed s.rules.stored s.checked s.hook' new (Ok (Err fault))
     → VerifiesHead {E = E} (asked_head s) s.hook new (Ok (Err (head_faults.Preamble fault)))
 preamble_shown s new fault opened found =
     head_faulted (asked_head s) s.hook new (head_faults.Preamble fault) (asked_then s.hook s.hook' new false opened.good.asked found.asked) (λ told.
@@ -114,11 +110,8 @@ preamble_shown s new fault opened found =
 
 -- ---- a good head
 
-accepts_preamble : (q : PreambleQuestion) → first_fault kernel_preamble_table q ≡ None → IsUsableKey q.key → KernelPreambleFits q.bytes (preamble_of q) → Accepts q.rows q.key (preamble_of q).signature (preamble_of q).signed
-unfolding kernel_preamble_table
-accepts_preamble q e usable fits =
-    let known : Known q.key.algorithm (length q.key.bytes) = record { algorithm_known = usable.algorithm; not_sha1 = usable.not_sha1; size_is = usable.size } in
-    accepts_signature (asked_of_signature q) (no_signature_fault kernel_lines asked_of_signature kernel_line q e) known fits.signature_length
+known_of : (key : Key) → IsUsableKey key → Known key.algorithm (length key.bytes)
+known_of key usable = record { algorithm_known = usable.algorithm; not_sha1 = usable.not_sha1; size_is = usable.size }
 
 -- where a hash is not enough, no fault of the keyblock is none of the first lines
 unsigned_none : (q : KernelKeyblockQuestion) → hash_is_enough q.rules ≡ false → kernel_keyblock_fault q ≡ None → first_fault keyblock_table (signed_question q) ≡ None
@@ -147,11 +140,11 @@ inside_of bytes from n long some =
 
 -- What is known of a preamble without a fault, and what is answered is made of.
 pub record MadeOf (s : HeadStep) (new : HookState) (preamble : KernelPreamble) (ok : HeadOk) : Type 0 where
-  pub preamble_good : ChecksKernelPreamble {E = Failed} s.rest s.packed s.rules.stored s.checked s.hook' new (Ok (Ok preamble))
-  pub version : ok.version ≡ combined_version s.packed.version preamble.version
+  pub preamble_good : ChecksPreamble {E = Failed} kernel_preamble s.rest s.packed s.rules.stored s.checked s.hook' new (Ok (Ok preamble))
+  pub version : ok.version ≡ combined_version s.packed.version preamble.common.version
   pub load_address : ok.load_address ≡ preamble.load_address
-  pub body_at : ok.body_at ≡ s.keyblock.size + preamble.size
-  pub body_len : ok.body_len ≡ preamble.body_len
+  pub body_at : ok.body_at ≡ s.keyblock.size + preamble.common.size
+  pub body_len : ok.body_len ≡ preamble.common.body_len
 
 ok_is : (a b : HeadOk) → a.version ≡ b.version → a.load_address ≡ b.load_address → a.body_at ≡ b.body_at → a.body_len ≡ b.body_len → a ≡ b
 ok_is a b version load at len = λ i. record { version = version i; load_address = load i; body_at = at i; body_len = len i }
@@ -163,10 +156,10 @@ head_is : (s : HeadStep) (new : HookState) (preamble : KernelPreamble) (ok : Hea
 head_is s new preamble ok opened made =
     let is = preamble_is s new preamble ok opened made in
     ok_is ok (head_ok (asked_head s))
-    (made.version ∙ ap (λ (n : ℕ). combined_version n preamble.version) (opened.copied.version ∙ ap (λ (k : Key). k.version) opened.good.read.data_key) ∙ ap (λ (p : KernelPreamble). combined_version (head_key s.vblock).version p.version) is)
+    (made.version ∙ ap (λ (n : ℕ). combined_version n preamble.common.version) (opened.copied.version ∙ ap (λ (k : Key). k.version) opened.good.read.data_key) ∙ ap (λ (p : KernelPreamble). combined_version (head_key s.vblock).version p.common.version) is)
     (made.load_address ∙ ap (λ (p : KernelPreamble). p.load_address) is)
-    (made.body_at ∙ ap (λ (n : ℕ). n + preamble.size) opened.good.read.size ∙ ap (λ (p : KernelPreamble). keyblock_size_of s.vblock + p.size) is)
-    (made.body_len ∙ ap (λ (p : KernelPreamble). p.body_len) is)
+    (made.body_at ∙ ap (λ (n : ℕ). n + preamble.common.size) opened.good.read.size ∙ ap (λ (p : KernelPreamble). keyblock_size_of s.vblock + p.common.size) is)
+    (made.body_len ∙ ap (λ (p : KernelPreamble). p.common.body_len) is)
 
 head_of : (s : HeadStep) (new : HookState) (preamble : KernelPreamble) (ok : HeadOk) → Opened s → MadeOf s new preamble ok → IsHeadOf s.vblock ok
 head_of s new preamble ok opened made =
@@ -175,7 +168,7 @@ head_of s new preamble ok opened made =
     let usable : IsUsableKey (head_key s.vblock) = subst IsUsableKey read.data_key read.usable in
     let key_size : length (head_key s.vblock).bytes ≡ (data_key_of s.vblock).size = ap (λ (k : Key). length k.bytes) (sym read.data_key) ∙ read.key_size in
     let rest_long : length s.rest ≡ length s.vblock - s.keyblock.size = ap (λ (xs : List ℕ). length xs) opened.behind ∙ length-drop s.keyblock.size s.vblock in
-    let preamble_whole : preamble.size ≤ length s.rest = made.preamble_good.fits.whole in
+    let preamble_whole : preamble.common.size ≤ length s.rest = made.preamble_good.fits.common.whole in
     record {
       key_inside = inside_of s.vblock ((data_key_of s.vblock).at + (data_key_of s.vblock).offset) (data_key_of s.vblock).size key_size (omega (arith, key_size, usable.size));
       key = usable;
@@ -205,7 +198,7 @@ head_good s new preamble ok opened made =
       head = head_of s new preamble ok opened made;
       chain = λ told. record {
         keyblock = λ needed. keyblock_accepted q s.keyblock read (opened.good.none told) needed;
-        preamble = accepts_preamble (asked_of_preamble q) (none told) usable (subst (KernelPreambleFits (behind_keyblock s.vblock)) is (subst (λ (b : List ℕ). KernelPreambleFits b preamble) (opened_rest s opened) found.fits));
+        preamble = accepts_preamble kernel_preamble (asked_of_preamble q) (none told) (known_of (head_key s.vblock) usable) (subst (KernelPreambleFits (behind_keyblock s.vblock)) is (subst (λ (b : List ℕ). KernelPreambleFits b preamble) (opened_rest s opened) found.fits)).common.signature_length;
         preamble_signed = subst KernelPreambleIsSigned is found.signed;
       };
     }

@@ -1,5 +1,5 @@
 -- Answers of the check of a kernel's body.
-use Rattle.std.proofs.Common.{◌≡◌, ℕ, ◌+◌, ◌*◌, ◌-◌, ◌/◌, ◌≤◌, min, Bool, false, cond, Option, Some, None, List, Ok, Err, Result, length, take, drop, refl, ap, sym, subst, ◌∙◌, arith}
+use Rattle.std.proofs.Common.{◌≡◌, ℕ, ◌+◌, ◌*◌, ◌-◌, ◌/◌, ◌≤◌, Bool, false, cond, Option, Some, None, List, Ok, Err, Result, length, take, drop, refl, ap, sym, subst, ◌∙◌, arith}
 use Rattle.std.specs.Prelude.{IsTrue}
 use Rattle.std.proofs.lemmas.Bool.{le-ltb}
 use Rattle.wire_core.specs.FirstFault.{first_fault}
@@ -7,7 +7,8 @@ use Rattle.board_core.specs.Disk.{DiskState}
 use Rattle.board_core.specs.Flash.{range}
 use Rattle.board_core.specs.Hook.{HookState}
 use Rattle.key_core.specs.declared.key.PackedKey.{PackedKey}
-use Rattle.preamble_core.specs.Kernel.{body_signature_of}
+use Rattle.preamble_core.specs.Common.{body_signature_of}
+use Rattle.preamble_core.specs.declared.common.PreambleKind.TheVariants as kinds
 use Rattle.rom_core.proofs.Ranges.{range-range}
 use Rattle.chain_core.specs.Accepted.{Asked, key_of, is_enrolled}
 use Rattle.chain_core.specs.Bodies.{is_store, is_hook}
@@ -28,14 +29,14 @@ pub looks_exact : (sectors at len : ℕ) (a b : DiskState) (failed : Bool) → l
 looks_exact sectors at len a b failed fits looks =
     subst (λ (t : Bool). LooksAtDisk (cond t 0 (later_sectors at len)) a b failed) (sym (le-ltb (most_of sectors at) len fits)) looks
 
-pub fits_in : (sectors at len : ℕ) → 128 ≤ sectors → at ≤ 65536 → len ≤ min 67108864 (sectors * 512 - at) → at + len ≤ sectors * 512
+pub fits_in : (sectors at len : ℕ) → 128 ≤ sectors → at ≤ 65536 → len ≤ most_of sectors at → at + len ≤ sectors * 512
 fits_in sectors at len many front fits = grind arith
 
 rounded : (n sectors : ℕ) → n ≤ sectors * 512 → (n + 511) / 512 ≤ sectors
 rounded n sectors h = grind arith
 
 -- the sectors past the first 128 lie on the disk
-pub rest_inside : (first sectors at len all : ℕ) → 128 ≤ sectors → at ≤ 65536 → len ≤ min 67108864 (sectors * 512 - at) → first + sectors ≤ all → first + 128 + (at + len - 65536 + 511) / 512 ≤ all
+pub rest_inside : (first sectors at len all : ℕ) → 128 ≤ sectors → at ≤ 65536 → len ≤ most_of sectors at → first + sectors ≤ all → first + 128 + (at + len - 65536 + 511) / 512 ≤ all
 rest_inside first sectors at len all many front fits inside =
     let whole = fits_in sectors at len many front fits in
     let part : at + len - 65536 ≤ (sectors - 128) * 512 = omega (arith, whole, many) in
@@ -103,8 +104,8 @@ says_body hook key signature body bytes first sectors at len said many front fit
 -- What the parts were taken from.
 pub record TakenFrom (vblock : List ℕ) (packed : PackedKey) (signature : List ℕ) : Type 0 where
   pub key : key_of packed ≡ head_key vblock
-  pub signature_is : signature ≡ (head_preamble vblock).body_signature
-  pub signature_size : length signature ≡ (body_signature_of (behind_keyblock vblock)).size
+  pub signature_is : signature ≡ (head_preamble vblock).common.body_signature
+  pub signature_size : length signature ≡ (body_signature_of kinds.Kernel (behind_keyblock vblock)).size
 
 body_asked : (vblock : List ℕ) (head : HeadOk) (packed : PackedKey) (signature : List ℕ) (first sectors : ℕ) (disk : DiskState) (hook : HookState) → TakenFrom vblock packed signature
     → disk_body_question packed signature first sectors head.body_at head.body_len disk hook ≡ kernel_body_question vblock head first sectors disk hook

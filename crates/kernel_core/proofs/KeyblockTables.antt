@@ -8,10 +8,11 @@ use Rattle.key_core.specs.Parts.{Key}
 use Rattle.key_core.specs.declared.keyblock.Seal.TheVariants as seals
 use Rattle.key_core.specs.declared.fault.KeyblockFault.{KeyblockFault}
 use Rattle.chain_core.specs.SlotNumbers.{keyblock_number}
-use Rattle.chain_core.specs.Tables.{lifted, KeyblockQuestion, keyblock_table, data_key_lines}
+use Rattle.preamble_core.specs.Lines.{lifted}
+use Rattle.chain_core.specs.Tables.{KeyblockQuestion, keyblock_table, data_key_lines}
 use Rattle.chain_core.specs.Checking.{view_question}
 use Rattle.chain_core.proofs.Checking.{same_data_key}
-use Rattle.chain_core.proofs.Lifted.{lifted-none, lifted-some}
+use Rattle.preamble_core.proofs.Lifted.{lifted-none, lifted-some}
 use Rattle.kernel_core.specs.Rules.{hash_is_enough}
 use Rattle.kernel_core.specs.KernelTables.{KernelKeyblockQuestion, signed_question, lines_to_seal, flag_lines, flag_question, signed_table, HashQuestion, hash_lines, hash_question, unchecked_question, hashed_table, kernel_keyblock_fault}
 use Rattle.kernel_core.proofs.Numbered.{Numbered, in_front, behind_front, none_in_front}

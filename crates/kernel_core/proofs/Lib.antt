@@ -2,7 +2,6 @@
 pub mod Numbered
 pub mod KeyblockTables
 pub mod KernelKeyblockAnswers
-pub mod KernelPreambleAnswers
 pub mod HeadAnswers
 pub mod DiskLooks
 pub mod BodyReads

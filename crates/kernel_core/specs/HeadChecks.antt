@@ -1,18 +1,14 @@
 -- What the checks of a kernel's keyblock, preamble and head answer, and what they leave.
-use Rattle.std.specs.Prelude.{◌≡◌, ℕ, ◌≤◌, Bool, false, IsTrue, List, length, Some, None, Result, is_err, IfOk, IfErr, OnOk}
-use Rattle.wire_core.specs.FirstFault.{first_fault}
+use Rattle.std.specs.Prelude.{◌≡◌, ℕ, ◌≤◌, false, IsTrue, List, length, Some, None, Result, is_err, IfOk, IfErr, OnOk}
 use Rattle.board_core.specs.Hook.{HookState}
 use Rattle.key_core.specs.Parts.{key_in}
 use Rattle.key_core.specs.Keyblocks.{Keyblock, keyblock_in, data_key_of, KeyblockFits, KeyblockIsSigned, size_of}
 use Rattle.key_core.specs.declared.key.PackedKey.{PackedKey}
 use Rattle.key_core.specs.declared.keyblock.Seal.TheVariants as seals
 use Rattle.key_core.specs.declared.fault.KeyblockFault.{KeyblockFault}
-use Rattle.preamble_core.specs.Kernel.{KernelPreamble, kernel_preamble_in, kernel_lines, KernelPreambleFits, KernelPreambleIsSigned}
-use Rattle.preamble_core.specs.declared.fault.KernelPreambleFault.{KernelPreambleFault}
 use Rattle.chain_core.specs.Accepted.{Asked, key_of}
-use Rattle.chain_core.specs.Checking.{preamble_question}
 use Rattle.kernel_core.specs.Rules.{hash_is_enough}
-use Rattle.kernel_core.specs.KernelTables.{KernelKeyblockQuestion, kernel_keyblock_fault, kernel_preamble_table}
+use Rattle.kernel_core.specs.KernelTables.{KernelKeyblockQuestion, kernel_keyblock_fault}
 use Rattle.kernel_core.specs.Heads.{IsUsableKey, IsHeadOf, HeadQuestion, head_fault, head_ok, HeadChain}
 use Rattle.kernel_core.specs.declared.rules.KernelRules.{KernelRules}
 use Rattle.kernel_core.specs.declared.head_fault.HeadFault.{HeadFault}
@@ -54,28 +50,6 @@ pub record ChecksKernelKeyblock {E : Type 0} (bytes : List ℕ) (signer : Packed
       kernel_keyblock_fault (kernel_keyblock_question bytes signer rules old) ≡ None))
   -- and is what the bytes hold, told or not
   pub read : IfOk result (λ answer. IfOk answer (KernelKeyblockRead bytes signer rules))
-
--- The call to check a kernel preamble.
-pub record ChecksKernelPreamble {E : Type 0} (bytes : List ℕ) (key : PackedKey) (stored : ℕ) (rollback : Bool)
-    (old new : HookState) (result : Result (Result KernelPreamble KernelPreambleFault) E) : Type 0 where
-  -- a hook that failed counted it once, and it holds what it held
-  pub asked : Asked old new (is_err result)
-  -- a fault is the first of the table
-  pub fault : IsTrue old.told → IfOk result (λ answer. IfErr answer (λ fault.
-      first_fault kernel_preamble_table (preamble_question bytes key stored rollback old) ≡ Some fault))
-  -- a preamble is answered only where none of its tests holds
-  pub none : IsTrue old.told → IfOk result (λ answer. OnOk answer (
-      first_fault kernel_preamble_table (preamble_question bytes key stored rollback old) ≡ None))
-  -- lines 1 to 7 look at the bytes alone
-  pub readable : IfOk result (λ answer. OnOk answer (first_fault kernel_lines bytes ≡ None))
-  -- and is what the bytes hold, told or not
-  pub parts : IfOk result (λ answer. IfOk answer (λ preamble. preamble ≡ kernel_preamble_in bytes))
-  -- its parts lie in the bytes
-  pub fits : IfOk result (λ answer. IfOk answer (KernelPreambleFits bytes))
-  -- all of it but the signature is read from what is signed
-  pub signed : IfOk result (λ answer. IfOk answer KernelPreambleIsSigned)
-  -- and its version fits 16 bits
-  pub version : IfOk result (λ answer. IfOk answer (λ preamble. preamble.version ≤ 65535))
 
 -- what is asked of the head in these bytes, of a hook
 abbrev pub head_question : List ℕ → PackedKey → KernelRules → HookState → HeadQuestion

@@ -52,9 +52,9 @@ pub record IsHeadOf (vblock : List ℕ) (head : HeadOk) : Type 0 where
   pub preamble : first_fault kernel_lines (behind_keyblock vblock) ≡ None
   pub load_address : head.load_address ≡ (head_preamble vblock).load_address
   -- the body begins right behind the preamble, which lies in the bytes
-  pub body_at : head.body_at ≡ keyblock_size_of vblock + (head_preamble vblock).size
+  pub body_at : head.body_at ≡ keyblock_size_of vblock + (head_preamble vblock).common.size
   pub inside : head.body_at ≤ length vblock
-  pub body_len : head.body_len ≡ (head_preamble vblock).body_len
+  pub body_len : head.body_len ≡ (head_preamble vblock).common.body_len
 
 -- ---- its fault
 
@@ -92,10 +92,10 @@ head_fault q = first_of (kernel_keyblock_fault (asked_of_keyblock q)) (first_fau
 
 abbrev pub head_ok : HeadQuestion → HeadOk
 head_ok q = record {
-  version = combined_version (head_key q.vblock).version (head_preamble q.vblock).version;
+  version = combined_version (head_key q.vblock).version (head_preamble q.vblock).common.version;
   load_address = (head_preamble q.vblock).load_address;
-  body_at = keyblock_size_of q.vblock + (head_preamble q.vblock).size;
-  body_len = (head_preamble q.vblock).body_len;
+  body_at = keyblock_size_of q.vblock + (head_preamble q.vblock).common.size;
+  body_len = (head_preamble q.vblock).common.body_len;
 }
 
 -- The keyblock is signed: its signature is accepted, and all of it but the seal is read from what is signed.
@@ -108,6 +108,6 @@ pub record HeadChain (q : HeadQuestion) : Type 0 where
   -- the key signed the keyblock, unless a matching hash is enough
   pub keyblock : hash_is_enough q.rules ≡ false → KeyblockAccepted q (keyblock_in seals.Signature q.vblock)
   -- the data key signed the preamble
-  pub preamble : Accepts q.rows (head_key q.vblock) (head_preamble q.vblock).signature (head_preamble q.vblock).signed
+  pub preamble : Accepts q.rows (head_key q.vblock) (head_preamble q.vblock).common.signature (head_preamble q.vblock).common.signed
   -- of which the body signature is signed
   pub preamble_signed : KernelPreambleIsSigned (head_preamble q.vblock)

@@ -8,7 +8,8 @@ use Rattle.board_core.specs.Disk.{DiskMedium, DiskState, LeftDiskTorn}
 use Rattle.board_core.specs.Flash.{range}
 use Rattle.board_core.specs.Hook.{HookState}
 use Rattle.key_core.specs.declared.key.PackedKey.{PackedKey}
-use Rattle.preamble_core.specs.Kernel.{body_signature_of}
+use Rattle.preamble_core.specs.Common.{body_signature_of}
+use Rattle.preamble_core.specs.declared.common.PreambleKind.TheVariants as kinds
 use Rattle.chain_core.specs.Hashing.{HoldsMessage}
 use Rattle.chain_core.specs.Accepted.{Accepts, Asked, key_of}
 use Rattle.chain_core.specs.Bodies.{store_failed, hook_failed}
@@ -128,8 +129,8 @@ kernel_body_question vblock head first sectors disk hook = record {
   most = most_of sectors head.body_at;
   len = head.body_len;
   key = head_key vblock;
-  signature = (head_preamble vblock).body_signature;
-  signature_size = (body_signature_of (behind_keyblock vblock)).size;
+  signature = (head_preamble vblock).common.body_signature;
+  signature_size = (body_signature_of kinds.Kernel (behind_keyblock vblock)).size;
   rows = hook.rows;
 }
 
@@ -152,4 +153,4 @@ pub record VerifiesKernelBody (vblock : List ℕ) (head : HeadOk) (first sectors
   pub body : IsTrue disk.medium.told → IfOk result (λ fault. IfNone fault (handed_out ≡ kernel_body head first sectors disk.medium))
   -- which the data key signed
   pub accepted : IsTrue disk.medium.told → IsTrue hook.told → IfOk result (λ fault. IfNone fault
-      (Accepts hook.rows (head_key vblock) (head_preamble vblock).body_signature (kernel_body head first sectors disk.medium)))
+      (Accepts hook.rows (head_key vblock) (head_preamble vblock).common.body_signature (kernel_body head first sectors disk.medium)))

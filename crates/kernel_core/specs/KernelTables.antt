@@ -12,12 +12,11 @@ use Rattle.key_core.specs.declared.key.PackedKey.{PackedKey}
 use Rattle.key_core.specs.declared.keyblock.Seal.TheVariants as seals
 use Rattle.key_core.specs.declared.fault.KeyblockFault.{KeyblockFault}
 use Rattle.key_core.specs.declared.fault.KeyblockFault.TheVariants as keyblock_faults
-use Rattle.preamble_core.specs.Kernel.{KernelPreamble, kernel_lines, kernel_preamble_in, signature_of}
+use Rattle.preamble_core.specs.Kernel.{KernelPreamble, kernel_lines, kernel_preamble_in, KernelPreambleFits, KernelPreambleIsSigned}
+use Rattle.preamble_core.specs.declared.common.PreambleKind.TheVariants as kinds
 use Rattle.preamble_core.specs.declared.fault.KernelPreambleFault.{KernelPreambleFault}
-use Rattle.preamble_core.specs.declared.fault.KernelPreambleFault.TheVariants as preamble_faults
-use Rattle.chain_core.specs.Tables.{lifted, KeyblockQuestion, keyblock_table, DataKeyQuestion, data_key_lines, PreambleQuestion, SignatureQuestion, parts_question, signature_lines}
-use Rattle.chain_core.specs.declared.fault.SignatureFault.{SignatureFault}
-use Rattle.chain_core.specs.declared.fault.SignatureFault.TheVariants as signature_faults
+use Rattle.preamble_core.specs.Lines.{lifted}
+use Rattle.chain_core.specs.Tables.{KeyblockQuestion, keyblock_table, DataKeyQuestion, data_key_lines, PreambleQuestion, Form, table_of}
 use Rattle.wire_core.specs.Fields.{number_at}
 use Rattle.kernel_core.specs.Rules.{hash_is_enough, flags_are_checked, versions_are_checked, developer_flag, recovery_flag}
 use Rattle.kernel_core.specs.declared.rules.KernelRules.{KernelRules}
@@ -120,24 +119,17 @@ kernel_keyblock_fault q =
 
 -- ---- a kernel preamble
 
--- the parts of the preamble
-abbrev pub preamble_of : PreambleQuestion → KernelPreamble
-preamble_of q = kernel_preamble_in q.bytes
+-- a kernel preamble, of which lines 1 to 7 look at the bytes alone
+abbrev pub kernel_preamble : Form KernelPreamble KernelPreambleFault
+kernel_preamble = record {
+  kind = kinds.Kernel;
+  lines = kernel_lines;
+  name = λ fault. fault;
+  parts = kernel_preamble_in;
+  common = λ preamble. preamble.common;
+  Fits = KernelPreambleFits;
+  IsSigned = KernelPreambleIsSigned;
+}
 
-abbrev pub asked_of_signature : PreambleQuestion → SignatureQuestion
-asked_of_signature q = parts_question (preamble_of q).signed (preamble_of q).signature (signature_of q.bytes).size (preamble_of q).version q
-
--- the name of a line on the signature in the table of a kernel preamble
-abbrev pub kernel_line : SignatureFault → KernelPreambleFault
-kernel_line signature_faults.SigSize = preamble_faults.SigSize
-kernel_line signature_faults.Refused = preamble_faults.Refused
-kernel_line signature_faults.VersionRange = preamble_faults.VersionRange
-kernel_line signature_faults.Rollback = preamble_faults.Rollback
-
--- lines 8 to 11
-abbrev pub further_kernel_lines : Table PreambleQuestion KernelPreambleFault
-further_kernel_lines = lifted asked_of_signature kernel_line signature_lines
-
--- the kernel preamble table: lines 1 to 7, which look at the bytes alone, and lines 8 to 11
-unfoldable pub kernel_preamble_table : Table PreambleQuestion KernelPreambleFault
-kernel_preamble_table = lifted (λ q. q.bytes) (λ fault. fault) kernel_lines ++ further_kernel_lines
+abbrev pub kernel_preamble_table : Table PreambleQuestion KernelPreambleFault
+kernel_preamble_table = table_of kernel_preamble

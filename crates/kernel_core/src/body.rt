@@ -235,11 +235,12 @@ pub fn verify_body<D: Disk, H: Hook>(
     let Ok(preamble) = KernelPreambleView::check(rest) else {
         unreachable!()
     };
+    let common = preamble.common();
     check_body(
         disk,
         hook,
         &key,
-        preamble.body_signature(),
+        common.body_signature(),
         first,
         sectors,
         vblock,

@@ -64,10 +64,11 @@ pub fn verify_head<H: Hook>(
         Ok(Err(fault)) => return Ok(Err(HeadFault::Preamble(fault))),
         Err(failed) => return Err(failed),
     };
+    let common = preamble.common();
     Ok(Ok(HeadOk {
-        version: combined_version(data_key.version, preamble.version()),
+        version: combined_version(data_key.version, common.version()),
         load_address: preamble.load_address(),
-        body_at: keyblock.size() + preamble.size(),
-        body_len: preamble.body_len(),
+        body_at: keyblock.size() + common.size(),
+        body_len: common.body_len(),
     }))
 }

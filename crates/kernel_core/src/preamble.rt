@@ -1,24 +1,12 @@
 // The check of a kernel preamble by the data key of its keyblock.
 ghost use Rattle.std.specs.Prelude.{◌≡◌, ◌≤◌};
-ghost use Rattle.kernel_core.specs.KernelTables.{kernel_line};
-ghost use Rattle.kernel_core.specs.HeadChecks.{ChecksKernelPreamble};
+ghost use Rattle.chain_core.specs.Checking.{ChecksPreamble};
+ghost use Rattle.kernel_core.specs.KernelTables.{kernel_preamble};
 
 use board_core::{Failed, Hook};
-use chain_core::{LARGEST_VERSION, SignatureFault, signature_fault};
+use chain_core::{LARGEST_VERSION, signature_fault};
 use key_core::{LARGEST_KEY, LAST_ALGORITHM, PackedKey};
 use preamble_core::{KernelPreambleFault, KernelPreambleView};
-
-// The line of the kernel preamble table that this is.
-fn kernel_line(fault: SignatureFault) -> KernelPreambleFault
-    ensures { result ≡ kernel_line fault }
-{
-    match fault {
-        SignatureFault::SigSize => KernelPreambleFault::SigSize,
-        SignatureFault::Refused => KernelPreambleFault::Refused,
-        SignatureFault::VersionRange => KernelPreambleFault::VersionRange,
-        SignatureFault::Rollback => KernelPreambleFault::Rollback,
-    }
-}
 
 /// The kernel preamble that the bytes begin with, of which the signature is to be one of the data key `key`. `stored` is the
 /// stored version word, and is looked at only where `rollback` says so. The hook keeps its rows.
@@ -35,23 +23,15 @@ pub fn verify_kernel_preamble<'a, H: Hook>(
     requires algorithm { key.now.algorithm ≤ LAST_ALGORITHM }
     requires size { key.now.size ≤ LARGEST_KEY }
     requires version { key.now.version ≤ LARGEST_VERSION }
-    ensures meets { ChecksKernelPreamble bytes.now key.now stored rollback (H.state hook.old) (H.state hook.new) result }
+    ensures meets { ChecksPreamble kernel_preamble bytes.now key.now stored rollback (H.state hook.old) (H.state hook.new) result }
 {
     let preamble = match KernelPreambleView::check(bytes) {
         Ok(preamble) => preamble,
         Err(fault) => return Ok(Err(fault)),
     };
-    let found = signature_fault(
-        hook,
-        key,
-        preamble.signed(),
-        preamble.signature(),
-        preamble.version(),
-        stored,
-        rollback,
-    )?;
+    let found = signature_fault(hook, key, &preamble.common(), stored, rollback)?;
     match found {
-        Some(fault) => Ok(Err(kernel_line(fault))),
+        Some(fault) => Ok(Err(fault)),
         None => Ok(Ok(preamble)),
     }
 }

@@ -1,2 +1,2 @@
-pub mod SignedFirmware
-pub mod SignedKernel
+pub mod Lifted
+pub mod Signed

@@ -1,2 +1,4 @@
+pub mod Common
 pub mod Firmware
 pub mod Kernel
+pub mod Lines

@@ -1,4 +1,6 @@
 // What can be wrong with a preamble.
+ghost use Rattle.std.specs.Prelude.{◌≡◌};
+ghost use Rattle.preamble_core.specs.Lines.{firmware_line};
 
 /// What is wrong with a firmware preamble, numbered by the lines of its table. The fault of a preamble is the first line
 /// whose test holds.
@@ -31,7 +33,7 @@ pub enum FwPreambleFault {
 }
 
 /// What is wrong with a kernel preamble, numbered by the lines of its table. The fault of a preamble is the first line
-/// whose test holds.
+/// whose test holds. A firmware preamble has each of these lines too, and one more behind line 6.
 #[derive(Clone, Copy, Debug, PartialEq, Eq)]
 pub enum KernelPreambleFault {
     /// Fewer bytes are there than the structure of minor version 0 has.
@@ -56,4 +58,23 @@ pub enum KernelPreambleFault {
     VersionRange = 10,
     /// The versions of key and kernel are older than the stored ones.
     Rollback = 11,
+}
+
+/// The line of the firmware preamble table that is also this one of the kernel preamble table.
+pub fn firmware_line(fault: KernelPreambleFault) -> FwPreambleFault
+    ensures { result ≡ firmware_line fault }
+{
+    match fault {
+        KernelPreambleFault::TooSmall => FwPreambleFault::TooSmall,
+        KernelPreambleFault::Version => FwPreambleFault::Version,
+        KernelPreambleFault::Size => FwPreambleFault::Size,
+        KernelPreambleFault::SigOutside => FwPreambleFault::SigOutside,
+        KernelPreambleFault::SignedTooLittle => FwPreambleFault::SignedTooLittle,
+        KernelPreambleFault::SignedTooMuch => FwPreambleFault::SignedTooMuch,
+        KernelPreambleFault::BodySigOutside => FwPreambleFault::BodySigOutside,
+        KernelPreambleFault::SigSize => FwPreambleFault::SigSize,
+        KernelPreambleFault::Refused => FwPreambleFault::Refused,
+        KernelPreambleFault::VersionRange => FwPreambleFault::VersionRange,
+        KernelPreambleFault::Rollback => FwPreambleFault::Rollback,
+    }
 }

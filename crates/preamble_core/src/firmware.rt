@@ -3,29 +3,25 @@ ghost use Rattle.std.specs.Prelude.{◌≡◌, Some, None, IfOk, IfErr, OnOk};
 ghost use Rattle.wire_core.specs.FirstFault.{first_fault};
 ghost use Rattle.preamble_core.specs.Firmware.{FwPreamble, firmware_lines, firmware_preamble_in, FwPreambleFits, FwPreambleIsSigned};
 
-use crate::fault::FwPreambleFault;
+use crate::common::{CommonView, PreambleKind, check_head};
+use crate::fault::{FwPreambleFault, firmware_line};
 use crate::layout::*;
-use key_core::{KeyView, key_at, signature_at};
+use key_core::{KeyView, key_at};
 use std::marker::Model;
 use wire_core::u32_at;
 
 /// A firmware preamble in its buffer: contracts see its numbers and the bytes of its parts.
 #[derive(Debug, Drop)]
 pub struct FwPreambleView<'a> {
-    size: u32,
-    version: u32,
+    common: CommonView<'a>,
     flags: u32,
-    signed: &'a [u8],
-    signature: &'a [u8],
     subkey: KeyView<'a>,
-    body_len: u32,
-    body_signature: &'a [u8],
 }
 
 impl<'a> Model for FwPreambleView<'a> {
     ghost Value = { FwPreamble };
 
-    ghost view = { λ p. record { size = p.size; version = p.version; flags = p.flags; signed = p.signed.now; signature = p.signature.now; subkey = p.subkey; body_len = p.body_len; body_signature = p.body_signature.now } };
+    ghost view = { λ p. record { common = p.common; flags = p.flags; subkey = p.subkey } };
 }
 
 impl FwPreambleView<'_> {
@@ -38,60 +34,31 @@ impl FwPreambleView<'_> {
         ensures fits { IfOk result (FwPreambleFits bytes.now) }
         ensures signed { IfOk result FwPreambleIsSigned }
     {
-        if bytes.len() < FIRMWARE_HEAD as usize {
-            return Err(FwPreambleFault::TooSmall);
-        }
-        if u32_at(bytes, PREAMBLE_MAJOR as usize) != PREAMBLE_MAJOR_VERSION {
-            return Err(FwPreambleFault::Version);
-        }
-        let size = u32_at(bytes, PREAMBLE_SIZE as usize);
-        if size < FIRMWARE_HEAD || bytes.len() < size as usize {
-            return Err(FwPreambleFault::Size);
-        }
-        let signature = signature_at(bytes, PREAMBLE_SIGNATURE);
-        if !signature.is_inside(size) {
-            return Err(FwPreambleFault::SigOutside);
-        }
-        if signature.data_size < FIRMWARE_HEAD {
-            return Err(FwPreambleFault::SignedTooLittle);
-        }
-        if size < signature.data_size {
-            return Err(FwPreambleFault::SignedTooMuch);
-        }
+        let head = match check_head(bytes, PreambleKind::Firmware) {
+            Ok(head) => head,
+            Err(fault) => return Err(firmware_line(fault)),
+        };
         let subkey = key_at(bytes, FIRMWARE_SUBKEY);
-        if !subkey.is_inside(signature.data_size) {
+        if !subkey.is_inside(head.signature.data_size) {
             return Err(FwPreambleFault::SubkeyOutside);
         }
-        let body = signature_at(bytes, FIRMWARE_BODY_SIGNATURE);
-        if !body.is_inside(signature.data_size) {
-            return Err(FwPreambleFault::BodySigOutside);
-        }
-        let version = u32_at(bytes, PREAMBLE_VERSION as usize);
+        let common = match head.view(bytes, PreambleKind::Firmware) {
+            Ok(common) => common,
+            Err(fault) => return Err(firmware_line(fault)),
+        };
         let flags = u32_at(bytes, FIRMWARE_FLAGS as usize);
         Ok(FwPreambleView {
-            size,
-            version,
+            common,
             flags,
-            signed: &bytes[..signature.data_size as usize],
-            signature: signature.part(bytes),
             subkey: subkey.view(bytes),
-            body_len: body.data_size,
-            body_signature: body.part(bytes),
         })
     }
 
-    /// The size of the preamble with all its parts, in bytes.
-    pub fn size(&self) -> u32
-        ensures { result ≡ self.now.size }
+    /// What a kernel preamble has too.
+    pub fn common(&self) -> CommonView<'_>
+        ensures { result ≡ self.now.common }
     {
-        self.size
-    }
-
-    /// The firmware's version, of which the lower 16 bits count.
-    pub fn version(&self) -> u32
-        ensures { result ≡ self.now.version }
-    {
-        self.version
+        self.common.reborrow()
     }
 
     /// The preamble's flags.
@@ -101,38 +68,10 @@ impl FwPreambleView<'_> {
         self.flags
     }
 
-    /// What the signature speaks for.
-    pub fn signed(&self) -> &[u8]
-        ensures { result.now ≡ self.now.signed }
-    {
-        self.signed
-    }
-
-    /// The signature over what is signed.
-    pub fn signature(&self) -> &[u8]
-        ensures { result.now ≡ self.now.signature }
-    {
-        self.signature
-    }
-
     /// The key that signs the kernel's keyblock, which lies in what is signed.
     pub fn subkey(&self) -> KeyView<'_>
         ensures { result ≡ self.now.subkey }
     {
         self.subkey.reborrow()
-    }
-
-    /// The size of the firmware body, in bytes.
-    pub fn body_len(&self) -> u32
-        ensures { result ≡ self.now.body_len }
-    {
-        self.body_len
-    }
-
-    /// The signature of the firmware body, which lies in what is signed.
-    pub fn body_signature(&self) -> &[u8]
-        ensures { result.now ≡ self.now.body_signature }
-    {
-        self.body_signature
     }
 }

@@ -1,31 +1,26 @@
 // A kernel preamble: the checks of its bytes, and its parts.
 ghost use Rattle.std.specs.Prelude.{◌≡◌, Some, None, IfOk, IfErr, OnOk};
 ghost use Rattle.wire_core.specs.FirstFault.{first_fault};
-ghost use Rattle.preamble_core.specs.Kernel.{KernelPreamble, kernel_head, kernel_lines, kernel_preamble_in, KernelPreambleFits};
+ghost use Rattle.preamble_core.specs.Kernel.{KernelPreamble, kernel_lines, kernel_preamble_in, KernelPreambleFits};
 ghost use Rattle.preamble_core.specs.Kernel.{KernelPreambleIsSigned};
 
+use crate::common::{CommonView, PreambleKind, check_head};
 use crate::fault::KernelPreambleFault;
 use crate::layout::*;
-use key_core::signature_at;
 use std::marker::Model;
-use wire_core::{u32_at, u64_at};
+use wire_core::u64_at;
 
 /// A kernel preamble in its buffer: contracts see its numbers and the bytes of its parts.
 #[derive(Debug, Drop)]
 pub struct KernelPreambleView<'a> {
-    size: u32,
-    version: u32,
+    common: CommonView<'a>,
     load_address: u64,
-    signed: &'a [u8],
-    signature: &'a [u8],
-    body_len: u32,
-    body_signature: &'a [u8],
 }
 
 impl<'a> Model for KernelPreambleView<'a> {
     ghost Value = { KernelPreamble };
 
-    ghost view = { λ p. record { size = p.size; version = p.version; load_address = p.load_address; signed = p.signed.now; signature = p.signature.now; body_len = p.body_len; body_signature = p.body_signature.now } };
+    ghost view = { λ p. record { common = p.common; load_address = p.load_address } };
 }
 
 impl KernelPreambleView<'_> {
@@ -38,56 +33,26 @@ impl KernelPreambleView<'_> {
         ensures fits { IfOk result (KernelPreambleFits bytes.now) }
         ensures signed { IfOk result KernelPreambleIsSigned }
     {
-        if bytes.len() < KERNEL_HEAD as usize {
-            return Err(KernelPreambleFault::TooSmall);
-        }
-        if u32_at(bytes, PREAMBLE_MAJOR as usize) != PREAMBLE_MAJOR_VERSION {
-            return Err(KernelPreambleFault::Version);
-        }
-        let minor = u32_at(bytes, PREAMBLE_MINOR as usize);
-        let head = head_of(minor);
-        let size = u32_at(bytes, PREAMBLE_SIZE as usize);
-        if size < head || bytes.len() < size as usize {
-            return Err(KernelPreambleFault::Size);
-        }
-        let signature = signature_at(bytes, PREAMBLE_SIGNATURE);
-        if !signature.is_inside(size) {
-            return Err(KernelPreambleFault::SigOutside);
-        }
-        if signature.data_size < head {
-            return Err(KernelPreambleFault::SignedTooLittle);
-        }
-        if size < signature.data_size {
-            return Err(KernelPreambleFault::SignedTooMuch);
-        }
-        let body = signature_at(bytes, KERNEL_BODY_SIGNATURE);
-        if !body.is_inside(signature.data_size) {
-            return Err(KernelPreambleFault::BodySigOutside);
-        }
-        let version = u32_at(bytes, PREAMBLE_VERSION as usize);
+        let head = match check_head(bytes, PreambleKind::Kernel) {
+            Ok(head) => head,
+            Err(fault) => return Err(fault),
+        };
+        let common = match head.view(bytes, PreambleKind::Kernel) {
+            Ok(common) => common,
+            Err(fault) => return Err(fault),
+        };
+        let load_address = u64_at(bytes, KERNEL_LOAD_ADDRESS as usize);
         Ok(KernelPreambleView {
-            size,
-            version,
-            load_address: u64_at(bytes, KERNEL_LOAD_ADDRESS as usize),
-            signed: &bytes[..signature.data_size as usize],
-            signature: signature.part(bytes),
-            body_len: body.data_size,
-            body_signature: body.part(bytes),
+            common,
+            load_address,
         })
     }
 
-    /// The size of the preamble with all its parts, in bytes.
-    pub fn size(&self) -> u32
-        ensures { result ≡ self.now.size }
+    /// What a firmware preamble has too.
+    pub fn common(&self) -> CommonView<'_>
+        ensures { result ≡ self.now.common }
     {
-        self.size
-    }
-
-    /// The kernel's version, of which the lower 16 bits count.
-    pub fn version(&self) -> u32
-        ensures { result ≡ self.now.version }
-    {
-        self.version
+        self.common.reborrow()
     }
 
     /// The address that the body is loaded at.
@@ -95,44 +60,5 @@ impl KernelPreambleView<'_> {
         ensures { result ≡ self.now.load_address }
     {
         self.load_address
-    }
-
-    /// What the signature speaks for.
-    pub fn signed(&self) -> &[u8]
-        ensures { result.now ≡ self.now.signed }
-    {
-        self.signed
-    }
-
-    /// The signature over what is signed.
-    pub fn signature(&self) -> &[u8]
-        ensures { result.now ≡ self.now.signature }
-    {
-        self.signature
-    }
-
-    /// The size of the kernel body, in bytes.
-    pub fn body_len(&self) -> u32
-        ensures { result ≡ self.now.body_len }
-    {
-        self.body_len
-    }
-
-    /// The signature of the kernel body, which lies in what is signed.
-    pub fn body_signature(&self) -> &[u8]
-        ensures { result.now ≡ self.now.body_signature }
-    {
-        self.body_signature
-    }
-}
-
-// The size of the structure at this minor version, in bytes.
-fn head_of(minor: u32) -> u32
-    ensures { result ≡ kernel_head minor }
-{
-    match minor {
-        0 => KERNEL_HEAD,
-        1 => KERNEL_HEAD_1,
-        _ => KERNEL_HEAD_2,
     }
 }

@@ -2,11 +2,13 @@
 //! only after every offset was checked in whole numbers.
 #![tactic(auto)]
 
+mod common;
 mod fault;
 mod firmware;
 mod kernel;
 pub mod layout;
 
-pub use fault::{FwPreambleFault, KernelPreambleFault};
+pub use common::{CommonView, PreambleKind};
+pub use fault::{FwPreambleFault, KernelPreambleFault, firmware_line};
 pub use firmware::FwPreambleView;
 pub use kernel::KernelPreambleView;

@@ -44,7 +44,7 @@ gbb_facts bytes = shown (first_fault gbb_lines bytes) (facts_of_gbb (gbb_in byte
 
 abbrev pub facts_of_preamble : FwPreamble → PreambleFacts
 facts_of_preamble preamble =
-    record { size = preamble.size; version = preamble.version; flags = preamble.flags; body_len = preamble.body_len }
+    let common = preamble.common in record { size = common.size; version = common.version; flags = preamble.flags; body_len = common.body_len }
 
 abbrev pub preamble_facts : List ℕ → Result PreambleFacts FwPreambleFault
 preamble_facts bytes = shown (first_fault firmware_lines bytes) (facts_of_preamble (firmware_preamble_in bytes))
@@ -65,7 +65,7 @@ slot_facts bytes = shown (first_fault (keyblock_lines Signature) bytes) (facts_o
 
 abbrev pub facts_of_kernel_preamble : KernelPreamble → KernelPreambleFacts
 facts_of_kernel_preamble preamble =
-    record { size = preamble.size; version = preamble.version; load_address = preamble.load_address; body_len = preamble.body_len }
+    let common = preamble.common in record { size = common.size; version = common.version; load_address = preamble.load_address; body_len = common.body_len }
 
 abbrev pub kernel_preamble_facts : List ℕ → Result KernelPreambleFacts KernelPreambleFault
 kernel_preamble_facts bytes = shown (first_fault kernel_lines bytes) (facts_of_kernel_preamble (kernel_preamble_in bytes))

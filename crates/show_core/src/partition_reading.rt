@@ -26,10 +26,10 @@ fn kernel_preamble_facts(bytes: &[u8]) -> Result<KernelPreambleFacts, KernelPrea
 {
     match KernelPreambleView::check(bytes) {
         Ok(preamble) => Ok(KernelPreambleFacts {
-            size: preamble.size(),
-            version: preamble.version(),
+            size: preamble.common().size(),
+            version: preamble.common().version(),
             load_address: preamble.load_address(),
-            body_len: preamble.body_len(),
+            body_len: preamble.common().body_len(),
         }),
         Err(fault) => Err(fault),
     }

@@ -16,10 +16,10 @@ fn preamble_facts(bytes: &[u8]) -> Result<PreambleFacts, FwPreambleFault>
 {
     match FwPreambleView::check(bytes) {
         Ok(preamble) => Ok(PreambleFacts {
-            size: preamble.size(),
-            version: preamble.version(),
+            size: preamble.common().size(),
+            version: preamble.common().version(),
             flags: preamble.flags(),
-            body_len: preamble.body_len(),
+            body_len: preamble.common().body_len(),
         }),
         Err(fault) => Err(fault),
     }

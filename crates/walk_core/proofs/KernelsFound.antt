@@ -145,12 +145,12 @@ bad_body d first sectors disk' disk'' hook' hook'' vblock body head fault exam v
 -- the signature of the body is accepted for what the disk holds
 same_accepts : (d : Drive) (first sectors : ℕ) (disk' : DiskState) (hook' : HookState) (vblock : List ℕ) (head : HeadOk)
     → vblock ≡ head_bytes d first → disk'.medium.bytes ≡ d.disk.medium.bytes → hook'.rows ≡ d.hook.rows
-    → Accepts hook'.rows (head_key vblock) (head_preamble vblock).body_signature (kernel_body head first sectors disk'.medium)
-    → Accepts d.hook.rows (head_key (head_bytes d first)) (head_preamble (head_bytes d first)).body_signature (kernel_body head first sectors d.disk.medium)
+    → Accepts hook'.rows (head_key vblock) (head_preamble vblock).common.body_signature (kernel_body head first sectors disk'.medium)
+    → Accepts d.hook.rows (head_key (head_bytes d first)) (head_preamble (head_bytes d first)).common.body_signature (kernel_body head first sectors d.disk.medium)
 same_accepts d first sectors disk' hook' vblock head filled bytes rows accepts =
-    subst (λ (v : List ℕ). Accepts d.hook.rows (head_key v) (head_preamble v).body_signature (kernel_body head first sectors d.disk.medium)) filled
-    (subst (λ (b : List ℕ). Accepts d.hook.rows (head_key vblock) (head_preamble vblock).body_signature (kernel_body head first sectors (record d.disk.medium { bytes = b }))) bytes
-    (subst (λ (r : List HookRow). Accepts r (head_key vblock) (head_preamble vblock).body_signature (kernel_body head first sectors disk'.medium)) rows accepts))
+    subst (λ (v : List ℕ). Accepts d.hook.rows (head_key v) (head_preamble v).common.body_signature (kernel_body head first sectors d.disk.medium)) filled
+    (subst (λ (b : List ℕ). Accepts d.hook.rows (head_key vblock) (head_preamble vblock).common.body_signature (kernel_body head first sectors (record d.disk.medium { bytes = b }))) bytes
+    (subst (λ (r : List HookRow). Accepts r (head_key vblock) (head_preamble vblock).common.body_signature (kernel_body head first sectors disk'.medium)) rows accepts))
 
 pub good_body : (d : Drive) (first sectors : ℕ) (disk' disk'' : DiskState) (hook' hook'' : HookState) (vblock body : List ℕ) (head : HeadOk)
     → ExaminesHead d first sectors disk' hook' vblock (Ok (Some head)) → VerifiesKernelBody vblock head first sectors disk' disk'' hook' hook'' body (Ok None)

@@ -1,20 +1,16 @@
 -- The chosen kernel is no older than the stored version, where versions are checked.
-use Rattle.std.proofs.Common.{◌≡◌, ℕ, ◌≤◌, Bool, true, false, not, ◌&&◌, nat_le, List, Option, Some, None, refl, ap, sym, subst, true≢false}
-use Rattle.std.specs.Prelude.{IsTrue, is_some, nat_lt}
+use Rattle.std.proofs.Common.{◌≡◌, ℕ, ◌≤◌, true, not, nat_le, List, Option, Some, None, refl, ap, sym, subst, true≢false}
+use Rattle.std.specs.Prelude.{IsTrue, is_some}
 use Rattle.std.proofs.lemmas.Bool.{and_parts}
 use Rattle.wire_core.specs.FirstFault.{first_fault}
-use Rattle.wire_core.proofs.FirstFault.{first_fault-none}
 use Rattle.gpt_core.specs.Entries.{first_in}
 use Rattle.gpt_core.specs.Format.{PartitionTable}
 use Rattle.gpt_core.specs.Tables.{table_on}
 use Rattle.key_core.specs.declared.fault.KeyblockFault.{KeyblockFault}
-use Rattle.preamble_core.specs.Kernel.{kernel_lines}
 use Rattle.preamble_core.specs.declared.fault.KernelPreambleFault.{KernelPreambleFault}
-use Rattle.chain_core.specs.Tables.{PreambleQuestion, signature_lines, combined_version}
-use Rattle.chain_core.proofs.Lifted.{not_over}
-use Rattle.chain_core.proofs.SignatureAnswers.{no_signature_fault}
+use Rattle.chain_core.proofs.Slots.{no_older as preamble_no_older}
 use Rattle.kernel_core.specs.Rules.{versions_are_checked}
-use Rattle.kernel_core.specs.KernelTables.{kernel_keyblock_fault, kernel_line, preamble_of, asked_of_signature, kernel_preamble_table}
+use Rattle.kernel_core.specs.KernelTables.{kernel_keyblock_fault, kernel_preamble, kernel_preamble_table}
 use Rattle.kernel_core.specs.Heads.{HeadQuestion, asked_of_keyblock, asked_of_preamble, first_of, head_fault, head_ok}
 use Rattle.walk_core.specs.Candidates.{is_candidate}
 use Rattle.walk_core.specs.Kernels.{Drive, asked_of_head, has_good_head, body_fault, is_good}
@@ -26,16 +22,6 @@ use Rattle.walk_core.proofs.Choices.{is_chosen}
 
 -- ---- a good head
 
-further_preamble : (q : PreambleQuestion) → first_fault kernel_preamble_table q ≡ None → first_fault signature_lines (asked_of_signature q) ≡ None
-unfolding kernel_preamble_table
-further_preamble q e = no_signature_fault kernel_lines asked_of_signature kernel_line q e
-
-preamble_no_older : (q : PreambleQuestion) → first_fault kernel_preamble_table q ≡ None → IsTrue q.rollback → q.stored ≤ combined_version q.key.version (preamble_of q).version
-preamble_no_older q e checked =
-    let none = first_fault-none signature_lines (asked_of_signature q) (further_preamble q e) in
-    let version = combined_version q.key.version (preamble_of q).version in
-    not_over version q.stored (subst (λ (b : Bool). (b && nat_lt version q.stored) ≡ false) checked none.1.1.1.0)
-
 no_preamble_fault : (keyblock : Option KeyblockFault) (preamble : Option KernelPreambleFault) → not (is_some (first_of keyblock preamble)) ≡ true → preamble ≡ None
 no_preamble_fault (Some fault) preamble good = absurd (true≢false (sym good))
 no_preamble_fault None (Some fault) good = absurd (true≢false (sym good))
@@ -45,7 +31,7 @@ head_no_older : (q : HeadQuestion) → not (is_some (head_fault q)) ≡ true →
 head_no_older q good checked =
     let none : first_fault kernel_preamble_table (asked_of_preamble q) ≡ None =
     no_preamble_fault (kernel_keyblock_fault (asked_of_keyblock q)) (first_fault kernel_preamble_table (asked_of_preamble q)) good in
-    preamble_no_older (asked_of_preamble q) none checked
+    preamble_no_older kernel_preamble (asked_of_preamble q) none checked
 
 good_no_older : (d : Drive) (first sectors : ℕ) → is_good d first sectors ≡ true → IsTrue (versions_are_checked d.rules) → d.rules.stored ≤ (head_ok (asked_of_head d first)).version
 unfolding has_good_head

@@ -184,8 +184,8 @@ kernel_of_same d entries k kernel handed_out disk' hook' same is =
       body = λ told. is.body (same.told ∙ told) ∙ body;
       chain = λ told told'. subst (λ (q : HeadQuestion). HeadChain q) asked (is.chain (same.told ∙ told) (same.hook_told ∙ told'));
       accepted = λ told told'.
-          subst (λ (q : HeadQuestion). Accepts d.hook.rows (head_key q.vblock) (head_preamble q.vblock).body_signature (body_of d entries k)) asked
-          (subst (λ (b : List ℕ). Accepts d.hook.rows (head_key (head_bytes e (first_in entries k))) (head_preamble (head_bytes e (first_in entries k))).body_signature b) body
-          (subst (λ (r : List HookRow). Accepts r (head_key (head_bytes e (first_in entries k))) (head_preamble (head_bytes e (first_in entries k))).body_signature (body_of e entries k)) same.rows
+          subst (λ (q : HeadQuestion). Accepts d.hook.rows (head_key q.vblock) (head_preamble q.vblock).common.body_signature (body_of d entries k)) asked
+          (subst (λ (b : List ℕ). Accepts d.hook.rows (head_key (head_bytes e (first_in entries k))) (head_preamble (head_bytes e (first_in entries k))).common.body_signature b) body
+          (subst (λ (r : List HookRow). Accepts r (head_key (head_bytes e (first_in entries k))) (head_preamble (head_bytes e (first_in entries k))).common.body_signature (body_of e entries k)) same.rows
           (is.accepted (same.told ∙ told) (same.hook_told ∙ told'))));
     }

@@ -98,9 +98,9 @@ found_same d first sectors disk' hook' body head same found =
       body = λ told. found.body (same.told ∙ told) ∙ ap (λ (b : List ℕ). kernel_body head first sectors (record d.disk.medium { bytes = b })) same.bytes;
       chain = λ told told'. subst (λ (q : HeadQuestion). HeadChain q) asked (found.chain (same.told ∙ told) (same.hook_told ∙ told'));
       accepted = λ told told'.
-          subst (λ (q : HeadQuestion). Accepts d.hook.rows (head_key q.vblock) (head_preamble q.vblock).body_signature (kernel_body head first sectors d.disk.medium)) asked
-          (subst (λ (b : List ℕ). Accepts d.hook.rows (head_key (head_bytes e first)) (head_preamble (head_bytes e first)).body_signature (kernel_body head first sectors (record d.disk.medium { bytes = b }))) same.bytes
-          (subst (λ (r : List HookRow). Accepts r (head_key (head_bytes e first)) (head_preamble (head_bytes e first)).body_signature (kernel_body head first sectors disk'.medium)) same.rows
+          subst (λ (q : HeadQuestion). Accepts d.hook.rows (head_key q.vblock) (head_preamble q.vblock).common.body_signature (kernel_body head first sectors d.disk.medium)) asked
+          (subst (λ (b : List ℕ). Accepts d.hook.rows (head_key (head_bytes e first)) (head_preamble (head_bytes e first)).common.body_signature (kernel_body head first sectors (record d.disk.medium { bytes = b }))) same.bytes
+          (subst (λ (r : List HookRow). Accepts r (head_key (head_bytes e first)) (head_preamble (head_bytes e first)).common.body_signature (kernel_body head first sectors disk'.medium)) same.rows
           (found.accepted (same.told ∙ told) (same.hook_told ∙ told'))));
     }
 

@@ -175,7 +175,7 @@ kernel_found d entries k body head below candidate found =
       many = found.many;
       body = λ told. found.body told ∙ ap (λ (h : HeadOk). kernel_body h first sectors d.disk.medium) (found.ok told);
       chain = found.chain;
-      accepted = λ told told'. subst (λ (h : HeadOk). Accepts d.hook.rows (head_key (head_bytes d first)) (head_preamble (head_bytes d first)).body_signature
+      accepted = λ told told'. subst (λ (h : HeadOk). Accepts d.hook.rows (head_key (head_bytes d first)) (head_preamble (head_bytes d first)).common.body_signature
           (kernel_body h first sectors d.disk.medium)) (found.ok told) (found.accepted told told');
     }
 

@@ -52,7 +52,7 @@ pub record FoundKernel (d : Drive) (first sectors : ℕ) (handed_out : List ℕ)
   -- the signatures of keyblock, preamble and body are accepted
   pub chain : IsTrue d.disk.medium.told → IsTrue d.hook.told → HeadChain (asked_of_head d first)
   pub accepted : IsTrue d.disk.medium.told → IsTrue d.hook.told → Accepts d.hook.rows (head_key (head_bytes d first))
-      (head_preamble (head_bytes d first)).body_signature (kernel_body head first sectors d.disk.medium)
+      (head_preamble (head_bytes d first)).common.body_signature (kernel_body head first sectors d.disk.medium)
 
 -- The call to examine the kernel in a partition.
 pub record ExaminesKernel (d : Drive) (first sectors : ℕ) (disk' : DiskState) (hook' : HookState) (handed_out : List ℕ)

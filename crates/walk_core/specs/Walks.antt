@@ -73,7 +73,7 @@ pub record IsKernelOf (d : Drive) (entries : List ℕ) (k : ℕ) (kernel : Kerne
   -- the signatures of keyblock, preamble and body are accepted
   pub chain : IsTrue d.disk.medium.told → IsTrue d.hook.told → HeadChain (asked_of_head d (first_in entries k))
   pub accepted : IsTrue d.disk.medium.told → IsTrue d.hook.told → Accepts d.hook.rows (head_key (head_bytes d (first_in entries k)))
-      (head_preamble (head_bytes d (first_in entries k))).body_signature
+      (head_preamble (head_bytes d (first_in entries k))).common.body_signature
       (body_of d entries k)
 
 -- ---- the call

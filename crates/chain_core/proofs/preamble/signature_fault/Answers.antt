@@ -1,5 +1,5 @@
 -- At each exit the lines before it do not hold, and the one that it names does.
-use Rattle.std.proofs.Common.{◌≡◌, ◌∙◌, false, true, refl, sym}
+use Rattle.std.proofs.Common.{◌≡◌, ◌≤◌, ◌<◌, ◌∙◌, ℕ, List, length, false, true, ap, sym, arith}
 use Rattle.std.specs.Prelude.{IsTrue, ◌&&◌, nat_lt}
 use Rattle.std.proofs.lemmas.Result.{err_from_is_err_and}
 use Rattle.chain_core.specs.Accepted.{key_of}
@@ -11,20 +11,25 @@ use Rattle.chain_core.proofs.preamble.signature_fault.Given.{Over}
 use Rattle.chain_core.proofs.preamble.signature_fault.Goals as goal
 use Rattle.chain_core.proofs.preamble.signature_fault.Goals.{In_ok-is_signed, else-rollback-via-then-rollback+else-combined_version-stored, else-rollback-via-else-rollback}
 
+long : (a b : List ℕ) → a ≡ b → length b ≡ length a
+long a b e = ap (λ (xs : List ℕ). length xs) (sym e)
+
 abbrev question : (g : Over) → In_ok-is_signed g → SignatureQuestion
-question g c = signature_question c.args.signed.now c.args.signature.now c.args.version c.args.key.now c.args.stored c.args.rollback (g.H.Hook.state c.args.hook.now)
+question g c = signature_question c.args.preamble.now c.args.key.now c.args.stored c.args.rollback (g.H.Hook.state c.args.hook.now)
 
 -- what the hook said
-said : (g : Over) (c : In_ok-is_signed g) → Said (key_of c.args.key.now) c.args.signed.now c.args.signature.now (g.H.Hook.state c.args.hook.now) (g.H.Hook.state c.is_signed.new.hook) c.in_ok-is_signed.field-0
-said g c = said_of _ _ _ _ _ (g.H.Hook.state c.args.hook.now) (g.H.Hook.state c.is_signed.new.hook) _ c.in_ok-is_signed.field-0 refl refl c.is_signed.ensures.meets c.in_ok-is_signed.was
+said : (g : Over) (c : In_ok-is_signed g)
+    → Said (key_of c.args.key.now) c.args.preamble.now.signed c.args.preamble.now.signature (g.H.Hook.state c.args.hook.now) (g.H.Hook.state c.is_signed.new.hook) c.in_ok-is_signed.field-0
+said g c = said_of _ _ _ _ _ (g.H.Hook.state c.args.hook.now) (g.H.Hook.state c.is_signed.new.hook) _ c.in_ok-is_signed.field-0 c.signed.ensures c.signature-2.ensures c.is_signed.ensures.meets c.in_ok-is_signed.was
 
 answered : (g : Over) (c : In_ok-is_signed g) → IsTrue (g.H.Hook.state c.args.hook.now).told → Answered (question g c) c.in_ok-is_signed.field-0
-answered g c told = record { size = c.if-signature-signature_length.false ∙ c.signature_length.ensures; says = (said g c).says told }
+answered g c told = record { size = long _ _ c.signature.ensures ∙ c.if-signature-signature_length.false ∙ c.signature_length.ensures; says = (said g c).says told }
 
 pub returns-then-signature-signature_length : goal.returns-then-signature-signature_length
 returns-then-signature-signature_length g c =
     let old = g.H.Hook.state c.args.hook.now in
-    record { meets = signature_found _ old old _ (asked_none old) (λ told. size_fault _ (λ e. c.if-signature-signature_length.true (e ∙ sym c.signature_length.ensures))) }
+    let q = signature_question c.args.preamble.now c.args.key.now c.args.stored c.args.rollback old in
+    record { meets = signature_found _ old old _ (asked_none old) (λ told. size_fault q (λ e. c.if-signature-signature_length.true (sym (long _ _ c.signature.ensures) ∙ e ∙ sym c.signature_length.ensures))) }
 
 pub returns-in_err-is_signed : goal.returns-in_err-is_signed
 returns-in_err-is_signed g c =
@@ -39,26 +44,34 @@ returns-then-not-branch g c =
 pub returns-then-version-gt-LARGEST_VERSION : goal.returns-then-version-gt-LARGEST_VERSION
 returns-then-version-gt-LARGEST_VERSION g c =
     let heard = (goal.at.returns-then-version-gt-LARGEST_VERSION g c).In_ok-is_signed in
-    record { meets = signature_found _ _ _ _ (said g heard).asked (λ told. range_fault (question g heard) _ (answered g heard told) c.if-not-branch.false c.if-version-gt-LARGEST_VERSION.true) }
+    let large : 65535 < c.args.preamble.now.version = omega (arith, c.version-version.ensures, c.if-version-gt-LARGEST_VERSION.true) in
+    record {
+      meets = signature_found _ _ _ _ (said g heard).asked (λ told. range_fault (question g heard) _ (answered g heard told) c.if-not-branch.false large);
+    }
 
 pub returns-then-combined_version-stored : goal.returns-then-combined_version-stored
 returns-then-combined_version-stored g c =
     let heard = (goal.at.returns-then-combined_version-stored g c).In_ok-is_signed in
-    let old = is_old c.args.rollback _ _ c.args.stored c.if-rollback.true c.combined_version.ensures c.if-combined_version-stored.true in
+    let fits : c.args.preamble.now.version ≤ 65535 = omega (arith, c.version-version.ensures, c.if-version-gt-LARGEST_VERSION.false) in
+    let same = c.combined_version.ensures ∙ ap (combined_version c.args.key.now.version) c.version-version.ensures in
+    let old = is_old c.args.rollback _ _ c.args.stored c.if-rollback.true same c.if-combined_version-stored.true in
     record {
       meets = signature_found _ _ _ _ (said g heard).asked (λ told.
-          last_line (question g heard) _ true (answered g heard told) c.if-not-branch.false c.if-version-gt-LARGEST_VERSION.false old);
+          last_line (question g heard) _ true (answered g heard told) c.if-not-branch.false fits old);
     }
 
 pub returns : goal.returns
 returns g c =
     let heard = (goal.at.returns g c).In_ok-is_signed in
-    let current : (c.args.rollback && nat_lt (combined_version c.args.key.now.version c.args.version) c.args.stored) ≡ false = elim c.else-rollback.branch [
-      | else-rollback-via-then-rollback+else-combined_version-stored w ↦ not_old c.args.rollback _ _ c.args.stored w.combined_version.ensures w.if-combined_version-stored.false
+    let fits : c.args.preamble.now.version ≤ 65535 = omega (arith, c.version-version.ensures, c.if-version-gt-LARGEST_VERSION.false) in
+    let word : ℕ → ℕ = combined_version c.args.key.now.version in
+    let current : (c.args.rollback && nat_lt (word c.args.preamble.now.version) c.args.stored) ≡ false = elim c.else-rollback.branch [
+      | else-rollback-via-then-rollback+else-combined_version-stored w ↦
+          not_old c.args.rollback _ _ c.args.stored (w.combined_version.ensures ∙ ap word c.version-version.ensures) w.if-combined_version-stored.false
       | else-rollback-via-else-rollback w ↦ not_checked c.args.rollback _ c.args.stored w.if-rollback.false
     ] in
     record {
       meets = signature_good _ _ _ (said g heard).asked (λ told.
-          last_line (question g heard) _ false (answered g heard told) c.if-not-branch.false c.if-version-gt-LARGEST_VERSION.false current)
-          c.if-version-gt-LARGEST_VERSION.false;
+          last_line (question g heard) _ false (answered g heard told) c.if-not-branch.false fits current)
+          fits;
     }

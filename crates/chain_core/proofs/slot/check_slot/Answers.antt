@@ -3,7 +3,8 @@ use Rattle.std.proofs.Common.{◌≡◌, ◌∙◌, ◌≤◌, ℕ, Option, Some
 use Rattle.board_core.specs.Flash.{FlashMedium}
 use Rattle.key_core.specs.Parts.{Key}
 use Rattle.rom_core.specs.Gbb.{area_bytes}
-use Rattle.chain_core.specs.Tables.{combined_version}
+use Rattle.preamble_core.specs.Common.{CommonPreamble}
+use Rattle.chain_core.specs.Tables.{combined_version, firmware_preamble}
 use Rattle.chain_core.specs.Slot.{slot_question}
 use Rattle.chain_core.specs.declared.fault.BodyFault.{BodyFault}
 use Rattle.chain_core.specs.declared.fault.Failure.{Failure}
@@ -12,7 +13,8 @@ use Rattle.chain_core.proofs.Keys.{known_fits}
 use Rattle.chain_core.proofs.Said.{asked_then}
 use Rattle.chain_core.proofs.Slots.{at_keyblock}
 use Rattle.chain_core.proofs.SlotAnswers.{slot_faulted, slot_failed, slot_good, GoodKeyblock, good_keyblock, good_preamble, Copied, KeyblockStep, keyblock_step, with_head, Opened}
-use Rattle.chain_core.proofs.SlotExits.{HeadRead, head_read, keyblock_answer, preamble_answer, preamble_shown, BodyStep, Ended, ended_of, ended_looks, ended_asked, body_shown, good_of}
+use Rattle.chain_core.proofs.PreambleAnswers.{preamble_answer}
+use Rattle.chain_core.proofs.SlotExits.{HeadRead, head_read, keyblock_answer, preamble_shown, BodyStep, Ended, ended_of, ended_looks, ended_asked, body_shown, good_of}
 use Rattle.chain_core.proofs.slot.check_slot.Given.{Over}
 use Rattle.chain_core.proofs.slot.check_slot.Goals as goal
 use Rattle.chain_core.proofs.slot.check_slot.Goals.{After-verify_keyblock, In-Ok-Ok, After-verify_preamble, After-verify_flash_body}
@@ -70,8 +72,8 @@ ended g c answer head opened is =
       checks = c.verify_flash_body.ensures.meets;
       looks = head.looks;
       inside = λ told. omega (arith, c.requires.main_inside, g.met.F.Flash.told_size c.args.flash.now told);
-      signature_is = c.body_signature.ensures;
-      len_is = c.body_len-body_len.ensures;
+      signature_is = c.body_signature.ensures ∙ ap (λ (p : CommonPreamble). p.body_signature) c.common-common.ensures;
+      len_is = c.body_len-body_len.ensures ∙ ap (λ (p : CommonPreamble). p.body_len) c.common-common.ensures;
     }) is
 
 -- ---- the sizes that the calls ask for
@@ -122,14 +124,14 @@ returns-in-Ok-Err-verify_preamble-clause-meets g c =
     let at = goal.at.returns-in-Ok-Err-verify_preamble-clause-meets g c in
     let head = read g at.After-verify_keyblock in
     let opened = opened g at.After-verify_preamble (good g at.In-Ok-Ok) in
-    let found = preamble_answer _ _ _ _ _ _ _ (Ok (Err c.in-Ok-Err-verify_preamble.fault)) c.verify_preamble.ensures.meets (c.in-Ok-Err-verify_preamble.is ∙ ap Ok c.in-Ok-Err-verify_preamble.field-0-is) in
+    let found = preamble_answer firmware_preamble _ _ _ _ _ _ _ (Ok (Err c.in-Ok-Err-verify_preamble.fault)) c.verify_preamble.ensures.meets (c.in-Ok-Err-verify_preamble.is ∙ ap Ok c.in-Ok-Err-verify_preamble.field-0-is) in
     slot_faulted _ c.read.new.buf _ _ _ _ _ _ head.looks (asked_then _ _ _ false opened.good.asked found.asked) head.filled
     (λ told told'. preamble_shown (opening g at.After-verify_preamble) c.in-Ok-Err-verify_preamble.fault opened found.fault told')
 
 pub returns-in-Err-verify_preamble-clause-meets : goal.returns-in-Err-verify_preamble-clause-meets
 returns-in-Err-verify_preamble-clause-meets g c =
     let at = goal.at.returns-in-Err-verify_preamble-clause-meets g c in
-    let found = preamble_answer _ _ _ _ _ _ _ (Err c.in-Err-verify_preamble.field-0) c.verify_preamble.ensures.meets c.in-Err-verify_preamble.is in
+    let found = preamble_answer firmware_preamble _ _ _ _ _ _ _ (Err c.in-Err-verify_preamble.field-0) c.verify_preamble.ensures.meets c.in-Err-verify_preamble.is in
     slot_failed _ _ _ _ _ _ failures.Hook (read g at.After-verify_keyblock).looks (asked_then _ _ _ _ (good g at.In-Ok-Ok).asked found.asked)
 
 pub returns-in-Ok-None-clause-meets : goal.returns-in-Ok-None-clause-meets
@@ -138,7 +140,9 @@ returns-in-Ok-None-clause-meets g c =
     let head = read g at.After-verify_keyblock in
     let step = body_step g at.After-verify_flash_body in
     let whole = ended g at.After-verify_flash_body (Ok None) head (opened g at.After-verify_preamble (good g at.In-Ok-Ok)) (c.in-Ok-None.is ∙ ap Ok c.in-Ok-None.field-0-is) in
-    let version : c.combined_version.result ≡ combined_version c.pack-key.result.version c.in-Ok-Ok-verify_preamble.preamble.version = c.combined_version.ensures ∙ ap (λ (n : ℕ). combined_version c.pack-key.result.version n) c.version.ensures in
+    let version : c.combined_version.result ≡ combined_version c.pack-key.result.version c.in-Ok-Ok-verify_preamble.preamble.common.version =
+    c.combined_version.ensures
+    ∙ ap (λ (n : ℕ). combined_version c.pack-key.result.version n) (c.version.ensures ∙ ap (λ (p : CommonPreamble). p.version) c.common-common.ensures) in
     let subkey = subst (λ (k : Key). Copied k c.pack.result) c.subkey.ensures (record { algorithm = c.pack.ensures.algorithm; version = c.pack.ensures.version; size = c.pack.ensures.size; bytes = c.pack.ensures.bytes; front = c.pack.ensures.front }) in
     slot_good _ c.read.new.buf _ _ _ _ _ _ (ended_looks step (Ok None) whole) (ended_asked step (Ok None) whole) head.filled
     (good_of step (record { version = c.combined_version.result; body_len = c.body_len-body_len.result; subkey = c.pack.result }) whole version refl subkey)

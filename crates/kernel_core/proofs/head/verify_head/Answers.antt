@@ -5,8 +5,11 @@ use Rattle.board_core.specs.declared.device.Failed.{Failed}
 use Rattle.key_core.specs.Parts.{Key}
 use Rattle.chain_core.specs.Tables.{combined_version}
 use Rattle.chain_core.proofs.SlotAnswers.{Copied}
-use Rattle.kernel_core.specs.HeadChecks.{ChecksKernelPreamble}
-use Rattle.kernel_core.proofs.HeadAnswers.{GoodKeyblock, good_keyblock, usable_fits, HeadStep, Opened, preamble_answer, preamble_shown, head_good}
+use Rattle.chain_core.specs.Checking.{ChecksPreamble}
+use Rattle.chain_core.proofs.PreambleAnswers.{preamble_answer}
+use Rattle.preamble_core.specs.Common.{CommonPreamble}
+use Rattle.kernel_core.specs.KernelTables.{kernel_preamble}
+use Rattle.kernel_core.proofs.HeadAnswers.{GoodKeyblock, good_keyblock, usable_fits, HeadStep, Opened, preamble_shown, head_good}
 use Rattle.kernel_core.proofs.head.verify_head.Given.{Over}
 use Rattle.kernel_core.proofs.head.verify_head.Goals as goal
 use Rattle.kernel_core.proofs.head.verify_head.Goals.{In-Ok-Ok, After-verify_kernel_preamble, In-Ok-Ok-verify_kernel_preamble}
@@ -39,8 +42,8 @@ opened g c good = record {
 }
 
 found : (g : Over) (c : In-Ok-Ok-verify_kernel_preamble g)
-    → ChecksKernelPreamble {E = Failed} c.behind-rest.result.now c.pack-data_key.result c.args.rules.now.stored c.versions_are_checked-checked.result (g.H.Hook.state c.verify_kernel_keyblock.new.hook) (g.H.Hook.state c.verify_kernel_preamble.new.hook) (Ok (Ok c.in-Ok-Ok-verify_kernel_preamble.preamble))
-found g c = preamble_answer _ _ _ _ _ _ _ _ c.verify_kernel_preamble.ensures.meets (c.in-Ok-Ok-verify_kernel_preamble.is ∙ ap Ok c.in-Ok-Ok-verify_kernel_preamble.field-0-is)
+    → ChecksPreamble {E = Failed} kernel_preamble c.behind-rest.result.now c.pack-data_key.result c.args.rules.now.stored c.versions_are_checked-checked.result (g.H.Hook.state c.verify_kernel_keyblock.new.hook) (g.H.Hook.state c.verify_kernel_preamble.new.hook) (Ok (Ok c.in-Ok-Ok-verify_kernel_preamble.preamble))
+found g c = preamble_answer kernel_preamble _ _ _ _ _ _ _ _ c.verify_kernel_preamble.ensures.meets (c.in-Ok-Ok-verify_kernel_preamble.is ∙ ap Ok c.in-Ok-Ok-verify_kernel_preamble.field-0-is)
 
 -- ---- goals
 
@@ -53,15 +56,16 @@ verify_kernel_preamble-requires-clause-size g c =
 pub returns-in-Ok-Err-verify_kernel_preamble : goal.returns-in-Ok-Err-verify_kernel_preamble
 returns-in-Ok-Err-verify_kernel_preamble g c =
     let at = goal.at.returns-in-Ok-Err-verify_kernel_preamble g c in
-    let found = preamble_answer _ _ _ _ _ _ _ (Ok (Err c.in-Ok-Err-verify_kernel_preamble.fault)) c.verify_kernel_preamble.ensures.meets (c.in-Ok-Err-verify_kernel_preamble.is ∙ ap Ok c.in-Ok-Err-verify_kernel_preamble.field-0-is) in
+    let found = preamble_answer kernel_preamble _ _ _ _ _ _ _ (Ok (Err c.in-Ok-Err-verify_kernel_preamble.fault)) c.verify_kernel_preamble.ensures.meets (c.in-Ok-Err-verify_kernel_preamble.is ∙ ap Ok c.in-Ok-Err-verify_kernel_preamble.field-0-is) in
     record { meets = preamble_shown (step g at.After-verify_kernel_preamble) _ c.in-Ok-Err-verify_kernel_preamble.fault (opened g at.After-verify_kernel_preamble (good g at.In-Ok-Ok)) found }
 
 pub overflow_add-result : goal.overflow_add-result
 overflow_add-result g c =
     let at = goal.at.overflow_add-result g c in
+    let size = ap (λ (p : CommonPreamble). p.size) c.common-common.ensures in
     let long : length c.behind-rest.result.now ≡ length c.args.vblock.now - c.size.result = ap (λ (xs : List ℕ). length xs) c.behind-rest.ensures ∙ length-drop c.size.result c.args.vblock.now in
     let first : c.size-2.result ≤ length c.args.vblock.now = subst (λ (n : ℕ). n ≤ length c.args.vblock.now) (sym c.size-2.ensures) (good g at.In-Ok-Ok).read.whole in
-    let second : c.size-3.result ≤ length c.behind-rest.result.now = subst (λ (n : ℕ). n ≤ length c.behind-rest.result.now) (sym c.size-3.ensures) (found g at.In-Ok-Ok-verify_kernel_preamble).fits.whole in
+    let second : c.size-3.result ≤ length c.behind-rest.result.now = subst (λ (n : ℕ). n ≤ length c.behind-rest.result.now) (sym (c.size-3.ensures ∙ size)) (found g at.In-Ok-Ok-verify_kernel_preamble).fits.common.whole in
     omega (arith, long, first, second, c.requires)
 
 pub returns : goal.returns
@@ -70,9 +74,10 @@ returns g c =
     record {
       meets = head_good (step g at.After-verify_kernel_preamble) _ c.in-Ok-Ok-verify_kernel_preamble.preamble _ (opened g at.After-verify_kernel_preamble (good g at.In-Ok-Ok)) (record {
         preamble_good = found g at.In-Ok-Ok-verify_kernel_preamble;
-        version = c.combined_version.ensures ∙ ap (λ (n : ℕ). combined_version c.pack-data_key.result.version n) c.version.ensures;
+        version = c.combined_version.ensures
+            ∙ ap (λ (n : ℕ). combined_version c.pack-data_key.result.version n) (c.version.ensures ∙ ap (λ (p : CommonPreamble). p.version) c.common-common.ensures);
         load_address = c.load_address.ensures;
-        body_at = ap (λ (n : ℕ). n + c.size-3.result) c.size-2.ensures ∙ ap (λ (n : ℕ). c.in-Ok-Ok.keyblock.size + n) c.size-3.ensures;
-        body_len = c.body_len.ensures;
+        body_at = ap (λ (n : ℕ). n + c.size-3.result) c.size-2.ensures ∙ ap (λ (n : ℕ). c.in-Ok-Ok.keyblock.size + n) (c.size-3.ensures ∙ ap (λ (p : CommonPreamble). p.size) c.common-common.ensures);
+        body_len = c.body_len.ensures ∙ ap (λ (p : CommonPreamble). p.body_len) c.common-common.ensures;
       });
     }

@@ -3,7 +3,7 @@ use Rattle.std.proofs.Common.{◌≡◌, ℕ, Bool, true, false, cond, not, Opti
 use Rattle.std.specs.Prelude.{nat_lt, ◌==◌}
 use Rattle.wire_core.specs.FirstFault.{Table, first_fault}
 use Rattle.wire_core.proofs.FirstFault.{first_fault-append, first_fault-append_some}
-use Rattle.chain_core.specs.Tables.{lifted}
+use Rattle.preamble_core.specs.Lines.{lifted}
 
 -- a fault under its name in the whole, or none
 abbrev pub named : {Fault Named : Type 0} → (Fault → Named) → Option Fault → Option Named

@@ -51,6 +51,7 @@ opens_by old new room (found.Primary agree) reads =
     record {
       counters = reads.counters;
       keeps = reads.keeps;
+      no_fewer = reads.no_fewer;
       holds = record { is = reads.holds; known = omega (arith, valid_size room.sectors room.table whole.1); valid = whole.1 };
       found = λ told. primary_opened agree old.medium.sectors old.medium.bytes room.table (reads.found told);
       none = λ told. tt;
@@ -60,6 +61,7 @@ opens_by old new room found.Backup reads =
     record {
       counters = reads.counters;
       keeps = reads.keeps;
+      no_fewer = reads.no_fewer;
       holds = record { is = reads.holds; known = omega (arith, valid_size room.sectors room.table whole.1); valid = whole.1 };
       found = λ told. backup_opened old.medium.sectors old.medium.bytes room.table (reads.found told);
       none = λ told. tt;
@@ -67,6 +69,7 @@ opens_by old new room found.Backup reads =
 opens_by old new room found.None reads = record {
   counters = reads.counters;
   keeps = reads.keeps;
+  no_fewer = reads.no_fewer;
   holds = tt;
   found = λ told. tt;
   none = λ told.

@@ -1,16 +1,16 @@
 -- What a repair leaves of a disk, by its answer.
-use Rattle.std.proofs.Common.{◌≡◌, ◌∙◌, ◌⊎◌, inl, inr, ℕ, refl, sym, ap₂, subst, arith, Bool, true, false, List, Option, Some, None, Ok, Err, Result}
-use Rattle.std.specs.Prelude.{IsTrue}
-use Rattle.std.proofs.lemmas.Bool.{false≢true}
+use Rattle.std.proofs.Common.{◌≡◌, ◌∙◌, inl, inr, ℕ, refl, sym, ap₂, subst, arith, Bool, true, false, List, Option, Some, None, Ok, Err, Result}
+use Rattle.std.specs.Prelude.{IsTrue, All, ◌≤◌}
+use Rattle.std.proofs.lemmas.Bool.{false≢true, true≢false}
 use Rattle.board_core.specs.declared.device.Failed.{Failed}
-use Rattle.board_core.specs.Counters.{CountsFaults, MadeChanges}
+use Rattle.board_core.specs.Counters.{CountsFaults, MadeChanges, Rose}
 use Rattle.board_core.specs.Disk.{DiskMedium, DiskState, overlaid}
 use Rattle.board_core.specs.Streams.{StreamState}
-use Rattle.board_core.specs.Torn.{Logs, added}
+use Rattle.board_core.specs.Torn.{Logs, Grown, added}
 use Rattle.board_core.proofs.Stops.{made_only_observed, observed_made}
 use Rattle.gpt_core.specs.declared.side.Side.{Side}
 use Rattle.gpt_core.specs.declared.side.Side.TheVariants as side
-use Rattle.gpt_core.specs.Commits.{Commits, SameButCopies, FailsToCommit, bytes_with_table}
+use Rattle.gpt_core.specs.Commits.{Commits, SameButCopies, IsOfCommit, FailsToCommit, bytes_with_table}
 use Rattle.gpt_core.specs.Format.{PartitionTable}
 use Rattle.gpt_core.specs.Reads.{KeepsDisk}
 use Rattle.gpt_core.specs.Room.{RoomView}
@@ -18,7 +18,7 @@ use Rattle.gpt_core.specs.Tables.{table_on, table_in, IsGood, CopiesAgree, BothH
 use Rattle.cgpt_core.specs.declared.fault.CgptFault.{CgptFault}
 use Rattle.cgpt_core.specs.declared.fault.CgptFault.TheVariants as fault
 use Rattle.cgpt_core.specs.declared.opening.Opened.{Opened}
-use Rattle.cgpt_core.specs.Tables.{agree_line, repaired_line, is_device, IsBuilt, IsPut, IsRepaired, IsRepairWord, KnowsTable, LeavesDisk, NothingToWrite, Opens, Repairs, Tells}
+use Rattle.cgpt_core.specs.Tables.{agree_line, repaired_line, is_device, IsAgreed, IsBuilt, IsPut, IsRepaired, IsRepairWord, KnowsTable, LeavesDisk, NothingToWrite, Opens, Repairs, Tells}
 use Rattle.cgpt_core.proofs.Telling.{word_of}
 
 -- ---- an answer of the sink
@@ -44,8 +44,7 @@ knows table (Err fault.Device) put good = absurd put
 knows table (Err fault.NoTable) put good = absurd put
 knows table (Err fault.NotBuilt) put good = absurd put
 
-leaves : (old new : DiskMedium) (result : Result Unit CgptFault) → IsPut result
-    → (CopiesAgree old.sectors old.bytes × KeepsDisk old new) ⊎ ((table : PartitionTable) × IsRepaired table old new) → LeavesDisk old new result
+leaves : (old new : DiskState) (result : Result Unit CgptFault) → IsPut result → IsAgreed old.medium new.medium → LeavesDisk old new result
 leaves old new (Ok done) put left = left
 leaves old new (Err fault.Write) put left = left
 leaves old new (Err fault.Device) put left = absurd put
@@ -85,6 +84,19 @@ fails_back table old mid new keeps told fails fair =
       | inr here ↦ inr here
     ]
 
+-- the records of a disk that was read before
+abbrev NotesFrom : PartitionTable → ℕ → List ℕ → Logs → Logs → Type 0
+NotesFrom table sectors bytes torn torn' = All (IsOfCommit sectors (bytes_with_table sectors table bytes)) (added torn torn')
+
+noted_back : (table : PartitionTable) (old mid new : DiskMedium) → KeepsDisk old mid → IsTrue old.told
+    → NotesFrom table mid.sectors mid.bytes mid.torn new.torn → NotesFrom table old.sectors old.bytes old.torn new.torn
+noted_back table old mid new keeps told noted =
+    let torn : NotesFrom table mid.sectors mid.bytes old.torn new.torn =
+    subst (λ (t : Logs). NotesFrom table mid.sectors mid.bytes t new.torn) (keeps.torn told) noted in
+    let bytes : NotesFrom table mid.sectors old.bytes old.torn new.torn =
+    subst (λ (b : List ℕ). NotesFrom table mid.sectors b old.torn new.torn) (keeps.bytes told) torn in
+    subst (λ (n : ℕ). NotesFrom table n old.bytes old.torn new.torn) keeps.sectors bytes
+
 -- ---- no table
 
 no_faults : (put : StreamState) → CountsFaults put.faults put.faults false
@@ -93,15 +105,17 @@ no_faults put = record { later = omega arith; cause = λ failed. absurd (false�
 pub repair_without : (old mid : DiskState) (room : RoomView) (put : StreamState) → Opens {E = Failed} old mid room (Ok None) → Repairs old mid put put (Err fault.NoTable)
 repair_without old mid room put opens = record {
   calls = 0;
-  most = omega arith;
+  all_or_none = inl refl;
   writes_none = λ told nothing. refl;
+  writes_all = λ told some ok. absurd (some (inr (opens.none told)));
+  no_fewer = opens.no_fewer;
   counters = made_only_observed old.counters mid.counters false opens.counters;
   sectors = opens.keeps.sectors;
   told = opens.keeps.told;
   none_pending = opens.keeps.none_pending;
   frame = λ told. frame_same old.medium mid.medium opens.keeps told;
   leaves = λ told. opens.keeps;
-  tells = record { faults = no_faults put; told = refl; texts = λ disk told. refl; nothing = λ told quiet. refl };
+  tells = record { faults = no_faults put; told = refl; texts = λ disk is_put. absurd is_put; nothing = λ told quiet. refl };
   built = tt;
   table = λ told. opens.none told;
 }
@@ -109,15 +123,17 @@ repair_without old mid room put opens = record {
 pub repair_unread : (old mid : DiskState) (room : RoomView) (put : StreamState) (failed : Failed) → Opens {E = Failed} old mid room (Err failed) → Repairs old mid put put (Err fault.Device)
 repair_unread old mid room put failed opens = record {
   calls = 0;
-  most = omega arith;
+  all_or_none = inl refl;
   writes_none = λ told nothing. refl;
+  writes_all = λ told some ok. absurd (true≢false ok);
+  no_fewer = opens.no_fewer;
   counters = made_only_observed old.counters mid.counters true opens.counters;
   sectors = opens.keeps.sectors;
   told = opens.keeps.told;
   none_pending = opens.keeps.none_pending;
   frame = λ told. frame_same old.medium mid.medium opens.keeps told;
   leaves = λ told. inl opens.keeps;
-  tells = record { faults = no_faults put; told = refl; texts = λ disk told. refl; nothing = λ told quiet. refl };
+  tells = record { faults = no_faults put; told = refl; texts = λ disk is_put. absurd is_put; nothing = λ told quiet. refl };
   built = tt;
   table = λ told. tt;
 }
@@ -140,18 +156,24 @@ module _ (old mid : DiskState) (room : RoomView) (opened : Opened) (put put' : S
       let agree : IsTrue old.medium.told → CopiesAgree old.medium.sectors old.medium.bytes = λ told. (opens.found told).agrees.0 agrees in
       record {
         calls = 0;
-        most = omega arith;
+        all_or_none = inl refl;
         writes_none = λ told nothing. refl;
+        writes_all = λ told some ok. absurd (some (inl (agree told)));
+        no_fewer = opens.no_fewer;
         counters = subst (λ (b : Bool). MadeChanges old.counters mid.counters 0 b) (sym (not_device result is_put)) (made_only_observed old.counters mid.counters false opens.counters);
         sectors = opens.keeps.sectors;
         told = opens.keeps.told;
         none_pending = opens.keeps.none_pending;
         frame = λ told. frame_same old.medium mid.medium opens.keeps told;
-        leaves = λ told. leaves old.medium mid.medium result is_put (inl (agree told, opens.keeps));
+        leaves = λ told. leaves old mid result is_put (inl (agree told, opens.keeps));
         tells = word_of (IsRepairWord old.medium) old.medium.told (agree_line) put put' result is_put (λ told. inl (agree told, refl)) tells;
         built = is_built result is_put;
         table = λ told. knows (table_on old.medium) result is_put (is_good told);
       }
+
+  no_fewer : (new : DiskState) → new.medium.sectors_read ≡ mid.medium.sectors_read → IsTrue old.medium.told
+      → old.medium.sectors_read ≤ new.medium.sectors_read
+  no_fewer new same told = omega (arith, opens.no_fewer told, same)
 
   module _ (new : DiskState) (differs : opened.agree ≡ false) where
     nothing_to_write : IsTrue old.medium.told → NothingToWrite old.medium → ⊥
@@ -180,14 +202,16 @@ module _ (old mid : DiskState) (room : RoomView) (opened : Opened) (put put' : S
         let keeps = opens.keeps in
         record {
           calls = 6;
-          most = omega arith;
+          all_or_none = inr refl;
           writes_none = λ told nothing. absurd (nothing_to_write told nothing);
+          writes_all = λ told some ok. refl;
+          no_fewer = no_fewer new commits.writes.sectors_read;
           counters = subst (λ (b : Bool). MadeChanges old.counters new.counters 6 b) (sym (not_device result is_put)) (observed_made old.counters mid.counters new.counters 6 false opens.counters commits.writes.counters);
           sectors = commits.writes.sectors ∙ keeps.sectors;
           told = commits.writes.told ∙ keeps.told;
           none_pending = commits.writes.none_pending;
           frame = λ told. frame_back old.medium mid.medium new.medium.bytes keeps told (commits.writes.frame (told_there old.medium mid.medium keeps told));
-          leaves = λ told. leaves old.medium new.medium result is_put (inr (room.table, repaired commits told));
+          leaves = λ told. leaves old new result is_put (inr (room.table, repaired commits told));
           tells = word_of (IsRepairWord old.medium) old.medium.told (repaired_line) put put' result is_put (λ told. inr (differ differs told, refl)) tells;
           built = is_built result is_put;
           table = λ told. knows (table_on old.medium) result is_put (is_good told);
@@ -198,8 +222,10 @@ module _ (old mid : DiskState) (room : RoomView) (opened : Opened) (put put' : S
         let keeps = opens.keeps in
         record {
           calls = 6;
-          most = omega arith;
+          all_or_none = inr refl;
           writes_none = λ told nothing. absurd (nothing_to_write told nothing);
+          writes_all = λ told some ok. refl;
+          no_fewer = no_fewer new commits.writes.sectors_read;
           counters = observed_made old.counters mid.counters new.counters 6 true opens.counters commits.writes.counters;
           sectors = commits.writes.sectors ∙ keeps.sectors;
           told = commits.writes.told ∙ keeps.told;
@@ -210,13 +236,18 @@ module _ (old mid : DiskState) (room : RoomView) (opened : Opened) (put put' : S
             record {
               good = good told;
               differed = differ differs told;
+              broke = subst (λ (n : ℕ). Rose n new.counters.failed_changes) opens.counters.failed_changes (commits.writes.broke refl);
+              kept = subst (λ (t : Logs). Grown t new.medium.torn) (keeps.torn told)
+                  (commits.writes.kept (told_there old.medium mid.medium keeps told));
+              noted = noted_back room.table old.medium mid.medium new.medium keeps told
+                  (commits.writes.noted (told_there old.medium mid.medium keeps told));
               fails = fails_back room.table old.medium mid.medium new.medium keeps told (commits.fails (told_there old.medium mid.medium keeps told));
             },
           );
           tells = record {
             faults = no_faults put;
             told = refl;
-            texts = λ disk told. refl;
+            texts = λ disk is_put. absurd is_put;
             nothing = λ told silent. refl;
           };
           built = tt;

@@ -19,7 +19,7 @@ pub word_put : (word : List ℕ) (old new : StreamState) → Puts {E = Failed} w
 word_put word old new put = record {
   faults = put.faults;
   told = put.told;
-  texts = λ disk told. (word, refl, put.ok told);
+  texts = λ disk put'. (word, refl, put.ok);
   nothing = λ told silent. absurd silent;
 }
 
@@ -29,7 +29,11 @@ pub word_failed : (word : List ℕ) (old new : StreamState) (failed : Failed) �
 word_failed word old new failed put = record {
   faults = put.faults;
   told = put.told;
-  texts = λ disk told. let front = put.err told in (word, refl, (take front.0 word, drop front.0 word, sym (take-append-drop front.0 word), front.2));
+  texts = λ disk put'. (
+    word,
+    refl,
+    λ told. let front = put.err told in (take front.0 word, drop front.0 word, sym (take-append-drop front.0 word), front.2),
+  );
   nothing = λ told silent. absurd silent;
 }
 
@@ -39,13 +43,13 @@ pub word_of : (IsText : List ℕ → Type 0) (is_told : Bool) (word : List ℕ) 
 word_of IsText is_told word old new (Ok done) put is tells = record {
   faults = tells.faults;
   told = tells.told;
-  texts = λ disk told. let text = tells.texts refl told in (text.0, subst IsText (sym text.1) (is disk), text.2);
+  texts = λ disk put'. let text = tells.texts refl tt in (text.0, subst IsText (sym text.1) (is disk), text.2);
   nothing = λ told silent. absurd silent;
 }
 word_of IsText is_told word old new (Err fault.Write) put is tells = record {
   faults = tells.faults;
   told = tells.told;
-  texts = λ disk told. let text = tells.texts refl told in (text.0, subst IsText (sym text.1) (is disk), text.2);
+  texts = λ disk put'. let text = tells.texts refl tt in (text.0, subst IsText (sym text.1) (is disk), text.2);
   nothing = λ told silent. absurd silent;
 }
 word_of IsText is_told word old new (Err fault.Device) put is tells = absurd put
@@ -71,10 +75,11 @@ module _ (drive : Drive) (old new : DiskState) (room : RoomView) (opened : Opene
   shows_all puts = record {
     counters = opens.counters;
     keeps = opens.keeps;
+    no_fewer = opens.no_fewer;
     tells = record {
       faults = puts.faults;
       told = puts.told;
-      texts = λ disk told. (text, is_shown disk, puts.ok told);
+      texts = λ disk put'. (text, is_shown disk, puts.ok);
       nothing = λ told silent. absurd silent;
     };
     built = tt;
@@ -85,10 +90,11 @@ module _ (drive : Drive) (old new : DiskState) (room : RoomView) (opened : Opene
   shows_front failed puts = record {
     counters = opens.counters;
     keeps = opens.keeps;
+    no_fewer = opens.no_fewer;
     tells = record {
       faults = puts.faults;
       told = puts.told;
-      texts = λ disk told. (text, is_shown disk, puts.err told);
+      texts = λ disk put'. (text, is_shown disk, puts.err);
       nothing = λ told silent. absurd silent;
     };
     built = tt;

@@ -47,6 +47,7 @@ partition_answer index medium = table_answer index (table_on medium) medium
 pub record ReadsKernel {E : Type 0} (first sectors : ℕ) (old new : DiskState) (result : Result PartitionFacts E) : Type 0 where
   pub counters : Observed old.counters new.counters (is_err result)
   pub keeps : KeepsDisk old.medium new.medium
+  pub no_fewer : IsTrue old.medium.told → old.medium.sectors_read ≤ new.medium.sectors_read
   pub no_more : IsTrue old.medium.told → new.medium.sectors_read ≤ old.medium.sectors_read + 128
   pub facts : IsTrue old.medium.told → IfOk result (λ facts. facts ≡ partition_facts first sectors old.medium)
 
@@ -54,6 +55,7 @@ pub record ReadsKernel {E : Type 0} (first sectors : ℕ) (old new : DiskState) 
 pub record ReadsPartition {E : Type 0} (index : ℕ) (old new : DiskState) (result : Result (Result PartitionFacts Missing) E) : Type 0 where
   pub counters : Observed old.counters new.counters (is_err result)
   pub keeps : KeepsDisk old.medium new.medium
+  pub no_fewer : IsTrue old.medium.told → old.medium.sectors_read ≤ new.medium.sectors_read
   pub no_more : IsTrue old.medium.told → new.medium.sectors_read ≤ old.medium.sectors_read + 194
   pub answer : IsTrue old.medium.told → IfOk result (λ answer. answer ≡ partition_answer index old.medium)
 
@@ -95,6 +97,7 @@ pub record ShowsPartition (index : ℕ) (old new : DiskState) (put put' : Stream
   -- the disk counted one failed call where it is said to have failed, and none else; it holds what it held
   pub counters : Observed old.counters new.counters (is_disk_fault result)
   pub keeps : KeepsDisk old.medium new.medium
+  pub no_fewer : IsTrue old.medium.told → old.medium.sectors_read ≤ new.medium.sectors_read
   pub no_more : IsTrue old.medium.told → new.medium.sectors_read ≤ old.medium.sectors_read + 194
   -- so did the sink
   pub faults : CountsFaults put.faults put'.faults (is_sink_fault result)

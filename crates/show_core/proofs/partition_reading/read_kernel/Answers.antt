@@ -18,6 +18,7 @@ returns-then-sectors-lt128 g c =
     record {
       counters = same;
       keeps = keeps_same old.medium c.requires.settled (g.met.D.Disk.told_pending c.args.disk.now);
+      no_fewer = λ told. omega arith;
       no_more = λ told. omega arith;
       facts = λ told. short_facts c.args.first c.args.sectors old.medium c.if-sectors-lt128.true;
     }
@@ -34,6 +35,7 @@ returns-in_err-read g c =
     (record {
       counters = subst (λ (b : Bool). Observed old.counters new.counters b) (ap is_err was) read.counters;
       keeps = keeps_read c.args.first c.read.new.buf old new c.read.result c.requires.settled (settled_writes old.medium c.requires.settled (g.met.D.Disk.told_pending c.args.disk.now)) read;
+      no_fewer = read.no_fewer;
       no_more = λ told. omega (arith, read.no_more told, size);
       facts = λ told. tt;
     })
@@ -48,6 +50,7 @@ returns g c =
     record {
       counters = read.counters;
       keeps = keeps_read c.args.first c.read.new.buf old new c.read.result c.requires.settled (settled_writes old.medium c.requires.settled (g.met.D.Disk.told_pending c.args.disk.now)) c.read.ensures.meets;
+      no_fewer = read.no_fewer;
       no_more = λ told. omega (arith, read.no_more told, size);
       facts = λ told. long_facts c.args.first c.args.sectors old.medium c.read.new.buf c.kernel_facts.result c.if-sectors-lt128.false c.kernel_facts.ensures (read.filled told) size;
     }

@@ -17,6 +17,7 @@ returns-in-None g c =
     record {
       counters = reads.counters;
       keeps = reads.keeps;
+      no_fewer = reads.no_fewer;
       no_more = λ told. omega (arith, reads.no_more told);
       answer = λ told. no_table c.args.index old.medium c.read_table.new.room.table (reads.found told);
     }
@@ -29,6 +30,7 @@ returns-in_default-place_of g c =
     record {
       counters = reads.counters;
       keeps = reads.keeps;
+      no_fewer = reads.no_fewer;
       no_more = λ told. omega (arith, reads.no_more told);
       answer = λ told.
           no_entry c.args.index old.medium c.in_ok-read_table.field-0 c.read_table.new.room.table c.place_of.result there (reads.found told) c.place_of.ensures.place c.in_default-place_of.is;
@@ -44,6 +46,7 @@ returns g c =
     record {
       counters = observed_then _ _ _ _ reads.counters kernel.counters;
       keeps = keeps_then old.medium mid.medium _ reads.keeps kernel.keeps;
+      no_fewer = λ told. omega (arith, reads.no_fewer told, kernel.no_fewer (subst IsTrue (sym reads.keeps.told) told));
       no_more = λ told. omega (arith, reads.no_more told, kernel.no_more (subst IsTrue (sym reads.keeps.told) told));
       answer = λ told.
           an_entry c.args.index old.medium mid.medium c.in_ok-read_table.field-0 c.read_table.new.room.table c.place_of.result c.in-Some.first c.in-Some.sectors c.in_ok-facts.facts there

@@ -6,7 +6,7 @@ use crate::line::Failing;
 use crate::machine::{DriveImage, Machine, SpaceImage};
 use board_core::{Flash, Fuse, FuseDisk, FuseTpm, HookRow, Platform, Space, Tpm};
 use board_mem::{FailAt, MemDisk, MemFlash, MemSink, MemTpm, TableHook};
-use command_core::run_words;
+use command_core::run;
 use std::alloc::{AllocError, Global};
 
 /// The most bytes that a command prints.
@@ -90,7 +90,7 @@ pub fn run_on(
         hook,
         map_at: 0,
     };
-    let status = run_words(alloc, words, &mut board, &mut out).code;
+    let status = run(alloc, words, &mut board, &mut out).code;
     let rows = board.hook.rows().to_vec(alloc)?;
     let mut after = machine_of(alloc, &mut board.flash, &mut board.tpm, rows)?;
     after.disk = DriveImage::of(alloc, &mut board.disk)?;

@@ -27,7 +27,7 @@ never_same old new same = record {
   faulty_kernel = λ some. ap (λ (s : Spaces). s.kernel) same;
 }
 
-never_then : (a b c : Spaces) → NeverFall a b → NeverFall b c → NeverFall a c
+pub never_then : (a b c : Spaces) → NeverFall a b → NeverFall b c → NeverFall a c
 never_then a b c h k = record {
   firmware = no_lower_then _ _ _ h.firmware k.firmware;
   kernel = no_lower_then _ _ _ h.kernel k.kernel;

@@ -1,5 +1,5 @@
 -- A whole boot, by its steps.
-use Rattle.std.proofs.Common.{◌≡◌, ℕ, ◌+◌, ◌≤◌, Bool, true, false, List, [], ◌++◌, Option, Some, None, Result, Ok, Err, refl, sym, ap, subst, ◌∙◌, arith, inl, inr}
+use Rattle.std.proofs.Common.{OnOk, ◌≡◌, ℕ, ◌+◌, ◌≤◌, Bool, true, false, List, [], ◌++◌, Option, Some, None, Result, Ok, Err, refl, sym, ap, subst, ◌∙◌, arith, inl, inr}
 use Rattle.std.specs.Prelude.{fold, if◌then◌else◌, IsTrue, IfSome, IfOk, IfErr}
 use Rattle.std.proofs.lemmas.Bool.{false≢true, and_from, eq-eqb}
 use Rattle.std.proofs.lemmas.Slice.Eq.{bytes_eq-Decides}
@@ -44,7 +44,7 @@ use Rattle.boot_core.specs.declared.outcome.Outcome.{Outcome}
 use Rattle.boot_core.specs.declared.outcome.Outcome.TheVariants as outcome
 use Rattle.boot_core.specs.declared.plan.Plan.{Plan}
 use Rattle.boot_core.specs.declared.room.Room.{Room}
-use Rattle.boot_core.specs.Changes.{Firmware, Record, Kernel, listed, tabled, spaces_with}
+use Rattle.boot_core.specs.Changes.{Change, Firmware, Record, Kernel, listed, tabled, spaces_with}
 use Rattle.boot_core.specs.Carries.{IsSettled, SameDisk, CarriesOut}
 use Rattle.boot_core.specs.Spaces.{RaisesVersion, RaisesKernel}
 use Rattle.boot_core.specs.Facts.{found_by, found_of, facts_of}
@@ -54,7 +54,7 @@ use Rattle.boot_core.specs.Plan.{first_changes, later_changes, changes_of, slot_
 use Rattle.boot_core.specs.Hands.{Handed, handed_by, kernel_key, HoldsSlot, HoldsKernel, HoldsHand, HoldsOutcome}
 use Rattle.board_core.specs.Drive.{same_drive}
 use Rattle.boot_core.specs.Steps.{SameDrives, IsTold, Looks, ReadsBoard, IsFromDisk, most_read, ReadsAtMost, PlansBoot, to_of, WritesTable, Finishes}
-use Rattle.boot_core.specs.Boots.{BootPlan, boot_plan_of, bad_flash_plan, boot_plan_by, boot_plan, look_found, AtFault, NeverFall, HandsOver, GoesOn, Boots}
+use Rattle.boot_core.specs.Boots.{BootPlan, boot_plan_of, bad_flash_plan, boot_plan_by, boot_plan, look_found, writes_table, AtFault, NeverFall, HandsOver, GoesOn, Boots}
 use Rattle.boot_core.proofs.Looking.{looks_then, looks_err}
 use Rattle.boot_core.proofs.Carried.{carried_then, carried_as, carried_cut}
 use Rattle.boot_core.proofs.Making.{looks_carry, keeps_same}
@@ -158,6 +158,7 @@ boots_looked sw old new handed fault settled looks none reads =
       made = tt;
       locks = tt;
       fault = at_fault plan fault old new carried.frame carried.ends (at_most_one plan.changes (few_planned sw old));
+      written = λ told. tt;
       goes_on = λ told. tt;
       versions = λ told. never_same old.tpm.spaces new.tpm.spaces looks.spaces;
       reads = reads;
@@ -189,6 +190,7 @@ boots_bad_flash sw old new handed fault settled read =
       made = carried.made;
       locks = read.unlocked;
       fault = tt;
+      written = λ told. λ is. absurd (false≢true is);
       goes_on = λ told. record { hands = tt; agree = λ from. absurd from };
       versions = λ told. never_same old.tpm.spaces new.tpm.spaces read.looks.spaces;
       reads = λ told. no_reads (look_found sw old (found_of old)) old new read.drives;
@@ -342,6 +344,36 @@ agree_answer : (plan : Plan) (table : PartitionTable) (mid last new : World) (an
 agree_answer plan table mid last new (Ok o) same told writes stands out = λ from. agree_by plan.table table mid last new o same told writes (stands (subst IsFromDisk out from))
 agree_answer plan table mid last new (Err fault) same told writes stands out = tt
 
+-- the changes of a plan write the table where it is to be written
+writes_last : (kernel last : Option (List ℕ)) → writes_table (listed Kernel kernel ++ listed Record last) ≡ false
+writes_last None None = refl
+writes_last None (Some r) = refl
+writes_last (Some k) None = refl
+writes_last (Some k) (Some r) = refl
+
+writes_later : (wanted : Bool) (kernel last : Option (List ℕ)) → writes_table (tabled wanted ++ (listed Kernel kernel ++ listed Record last)) ≡ wanted
+writes_later true kernel last = refl
+writes_later false kernel last = writes_last kernel last
+
+writes_first : (firmware nv : Option (List ℕ)) (rest : List Change) → writes_table ((listed Firmware firmware ++ listed Record nv) ++ rest) ≡ writes_table rest
+writes_first None None rest = refl
+writes_first None (Some r) rest = refl
+writes_first (Some f) None rest = refl
+writes_first (Some f) (Some r) rest = refl
+
+writes_planned : (plan : Plan) → writes_table (changes_of plan) ≡ plan.table
+writes_planned plan = writes_first plan.firmware plan.nv (later_changes plan) ∙ writes_later plan.table plan.kernel plan.last
+
+agree_written : (wanted : Bool) (table : PartitionTable) (last new : World) (o : Outcome) → IsTrue last.disk.medium.told → WritesTable wanted table last new (Ok o)
+    → IsTrue wanted → IsTrue (copies_agree new.disk.medium)
+agree_written true table last new o told writes is = both_agree table new.disk.medium (writes.both told refl)
+agree_written false table last new o told writes is = absurd (false≢true is)
+
+written_answer : (plan : Plan) (table : PartitionTable) (last new : World) (answer : Result Outcome Fault) → IsTrue last.disk.medium.told
+    → WritesTable plan.table table last new answer → OnOk answer (IsTrue (writes_table (changes_of plan)) → IsTrue (copies_agree new.disk.medium))
+written_answer plan table last new (Ok o) told writes = λ is. agree_written plan.table table last new o told writes (subst IsTrue (writes_planned plan) is)
+written_answer plan table last new (Err fault) told writes = tt
+
 -- ---- a plan that is carried out
 
 at_faults : (plan : BootPlan) (old new : World) (answer : Result Outcome Fault) → tables plan.changes ≤ 1 → CarriesOut 0 plan.to plan.state plan.changes old new answer → IfErr answer (λ (fault : Fault). AtFault plan fault old new)
@@ -440,6 +472,7 @@ boots_planned sw old mid last new room found plan answer settled read plans fini
       made = carried.made;
       locks = h.locks;
       fault = at_faults whole old new answer (few_listed plan) carried;
+      written = λ told. written_answer plan table last new answer (subst IsTrue (sym looks.same_disk.told) told) h.makes.drives;
       goes_on = λ told.
           goes_on_answer sw old new (handed_by room) answer
           (hands_answer sw old mid found (handed_by room) plan.outcome answer same (sym (read.whole told.flash told.tpm)) (plans.holds (again told)) h.outcome)

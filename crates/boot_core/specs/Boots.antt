@@ -151,6 +151,12 @@ HasNoTable [] = Unit {0}
 HasNoTable (Table ∷ rest) = ⊥
 HasNoTable (other ∷ rest) = HasNoTable rest
 
+-- one of them writes the table
+abbrev pub writes_table : List Change → Bool
+writes_table [] = false
+writes_table (Table ∷ rest) = true
+writes_table (other ∷ rest) = writes_table rest
+
 -- What a fault leaves.
 pub record AtFault (plan : BootPlan) (fault : Fault) (old new : World) : Type 0 where
   -- so many changes are known to be whole
@@ -210,6 +216,8 @@ pub record Boots (sw : Switches) (old new : World) (handed : Handed) (answer : R
   -- where no device fails, the outcome is that of the plan, all changes are made, and both spaces are locked or neither
   pub outcome : IfOk answer (λ outcome. outcome ≡ plan.outcome)
   pub made : OnOk answer (IsMade plan.to plan.changes old new)
+  -- wherever a table was written, at a reboot too, both copies of the disk hold it
+  pub written : IsTrue old.disk.medium.told → OnOk answer (IsTrue (writes_table plan.changes) → IsTrue (copies_agree new.disk.medium))
   pub locks : IfOk answer (λ outcome. new.tpm.locks ≡ locks_at outcome)
   pub fault : IfErr answer (λ fault. AtFault plan fault old new)
   pub goes_on : IsTold old → IfOk answer (GoesOn sw old new handed)

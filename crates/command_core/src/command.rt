@@ -1,7 +1,7 @@
 // The words after the program's name, as the command that they ask for.
-ghost use Rattle.std.specs.Prelude.{◌≡◌, ◌≤◌, ◌<◌, ◌^◌, ◌↔◌, ◌∷◌, [], ℕ, List, IsTrue, IfSome, IfNone, map, string_bytes, codes, decimal};
+ghost use Rattle.std.specs.Prelude.{◌≡◌, ◌≤◌, ◌<◌, ◌^◌, ◌↔◌, ◌∷◌, [], ℕ, List, IsTrue, IfSome, IfNone, IfOk, map, string_bytes, codes, decimal};
 ghost use Rattle.board_core.specs.declared.device.Drive.{Drive};
-ghost use Rattle.command_core.specs.Commands.{partition_words, AreShowWords, IsRead, IsReadPlain};
+ghost use Rattle.command_core.specs.Commands.{partition_words, AreShowWords, IsRead, IsReadPlain, IsInRange};
 
 use crate::switch_words::switches_behind;
 use board_core::Drive;
@@ -35,7 +35,8 @@ pub enum Command {
 /// `Usage`: exactly where they are no command, unless one of their values is out of its range. `BadValue`: exactly where they are
 /// those of a command on a partition table but for such a value. `Memory`: there was no memory to read the words of one.
 pub fn command_of(alloc: Global, words: &[String]) -> Result<Command, WordFault>
-    ensures { IsRead (map string_bytes words.now) result }
+    ensures read { IsRead (map string_bytes words.now) result }
+    ensures in_range { IfOk result (λ command. IsInRange command) }
 {
     let Some(rest) = behind(words, b"cgpt") else {
         return plain_command(words).ok_or(WordFault::Usage);
@@ -57,7 +58,8 @@ pub fn behind<'a>(words: &'a [String], first: &[u8]) -> Option<&'a [String]>
 
 // The command of these words, where it is none on a partition table.
 fn plain_command(words: &[String]) -> Option<Command>
-    ensures { IsReadPlain (map string_bytes words.now) result }
+    ensures read { IsReadPlain (map string_bytes words.now) result }
+    ensures in_range { IfSome result (λ command. IsInRange command) }
 {
     if let Some(sw) = switches_behind(words) {
         Some(Command::Boot(sw))

@@ -2,7 +2,7 @@
 //!
 //! - `command` has the commands and their words, `switch_words` those of a boot, and `answer` what each came to, with its text and
 //!   its exit status.
-//! - `booting`, `kernel_showing`, `making`, `partitions` and `showing` work a command on a board, and `run` any of them;
+//! - `booting`, `kernel_showing`, `making`, `partitions` and `showing` work a command on a board, and `running` any of them;
 //!   `printing` puts the answer.
 #![tactic(auto)]
 
@@ -13,11 +13,11 @@ mod kernel_showing;
 mod making;
 mod partitions;
 mod printing;
-mod run;
+mod running;
 mod showing;
 mod switch_words;
 
 pub use answer::{Answer, CgptRefusal, Status};
 pub use command::{Command, command_of};
 pub use printing::print;
-pub use run::{run_command, run_words};
+pub use running::run;

@@ -3,16 +3,21 @@
 //! `opening` opens the board over these images. What a command does to it and prints is `command_core`'s.
 #![tactic(auto)]
 
-ghost use Rattle.std.specs.Prelude.{◌≡◌, drop, map, string_bytes, IfOk};
+ghost use Rattle.std.specs.Prelude.{◌≡◌, drop, map, string_bytes, IfOk, MatchResult};
 ghost use Rattle.std.specs.Vec.Iter.{into_iter_items};
+ghost use Rattle.std.specs.IoError.{error_kind};
 ghost use Rattle.std.specs.Process.{exit_status};
-ghost use Rattle.vboot_tool.specs.Starting.{StartsBy, EndsBy, LacksWords};
+ghost use Rattle.board_core.specs.World.{world};
+ghost use Rattle.command_core.specs.Commands.{IsCommand};
+ghost use Rattle.command_core.specs.Prints.{Prints};
+ghost use Rattle.vboot_tool.specs.Opening.{IsSettledBoard};
+ghost use Rattle.vboot_tool.specs.Starting.{RunsFrom, StartsBy, EndsBy, LacksWords};
 
 mod opening;
 
-use board_core::Sink;
+use board_core::{Disk, Flash, Hook, Platform, Sink, Tpm};
 use board_file::{OpenFault, StdSink};
-use command_core::{Answer, Status, command_of, print, run_command};
+use command_core::{Answer, Status, command_of, print, run};
 use opening::open_board;
 use std::alloc::{AllocError, Global};
 use std::env::Args;
@@ -44,18 +49,40 @@ fn hold_streams<R: Files>(rt: &R) -> [Option<R::File>; 3] {
     ]
 }
 
-// Runs the command of these words over the files of the current folder. Words that are refused open none.
+// Runs these words over a board, or tells why it was not opened.
+fn run_over<
+    F: Flash + Drop,
+    T: Tpm + Drop,
+    D: Disk + Drop,
+    E: Disk + Drop,
+    H: Hook + Drop,
+    O: Sink,
+>(
+    alloc: Global,
+    words: &[String],
+    opened: Result<Platform<F, T, D, E, H>, OpenFault>,
+    out: &mut O,
+) -> Status
+    requires { IfOk opened (λ board. IsSettledBoard board) }
+    ensures ends { MatchResult opened
+        (λ board. RunsFrom (map string_bytes words.now) (world F.state T.state H.state board) (O.state out.old) (O.state out.new) result)
+        (λ fault. Prints (Answer.Unopened fault) (O.state out.old) (O.state out.new) result) }
+    ensures starts { IsCommand (map string_bytes words.now)
+        → StartsBy (map string_bytes words.now) (O.state out.old) (O.state out.new) result }
+{
+    match opened {
+        Ok(mut board) => run(alloc, words, &mut board, out),
+        Err(fault) => print(out, &Answer::Unopened(fault)),
+    }
+}
+
+// Runs these words over the files of the current folder. Words that are refused open none, so they are read before.
 fn run_here<R: Files + AllocGlobal, O: Sink>(rt: &R, words: &[String], out: &mut O) -> Status
     ensures { StartsBy (map string_bytes words.now) (O.state out.old) (O.state out.new) result }
 {
-    let command = match command_of(rt.alloc(), words) {
-        Ok(command) => command,
-        // Before any image is made.
-        Err(fault) => return print(out, &Answer::of_words(fault)),
-    };
-    match open_board(rt) {
-        Ok(mut board) => run_command(rt.alloc(), command, &mut board, out),
-        Err(fault) => print(out, &Answer::Unopened(fault)),
+    match command_of(rt.alloc(), words) {
+        Ok(_) => run_over(rt.alloc(), words, open_board(rt), out),
+        Err(fault) => print(out, &Answer::of_words(fault)),
     }
 }
 
@@ -71,7 +98,7 @@ fn run_process<R: Files + AllocGlobal, O: Sink>(rt: &R, process: Args, out: &mut
 
 // The words of the process cannot be had: one is no text, or memory is wanting. Nothing is run.
 fn refuse<O: Sink>(error: &io::Error, out: &mut O) -> ExitCode
-    ensures { LacksWords (O.state out.old) (O.state out.new) (exit_status result) }
+    ensures { LacksWords (error_kind error.now) (O.state out.old) (O.state out.new) (exit_status result) }
 {
     if error.kind() == io::ErrorKind::OutOfMemory {
         return ExitCode::from(print(out, &Answer::Unopened(OpenFault::Memory)).code);

@@ -1,5 +1,5 @@
 // The top call: a command by its words, and its answer in print.
-ghost use Rattle.std.specs.Prelude.{◌≡◌, map, string_bytes, Ok};
+ghost use Rattle.std.specs.Prelude.{map, string_bytes, Ok};
 ghost use Rattle.board_core.specs.World.{world};
 ghost use Rattle.boot_core.specs.Carries.{IsSettled};
 ghost use Rattle.command_core.specs.Run.{RunsBy, Runs};
@@ -16,8 +16,8 @@ use board_core::{Disk, Flash, Hook, Platform, Sink, Tpm};
 use std::alloc::Global;
 
 /// Works the command that these words name, which follow the program's name, on a board on whose disks nothing is pending,
-/// and prints its answer. Words that are refused leave the board as it is.
-pub fn run_words<F: Flash, T: Tpm, D: Disk, E: Disk, H: Hook, O: Sink>(
+/// prints its answer, and answers the exit status. Words that are refused leave the board as it is.
+pub fn run<F: Flash, T: Tpm, D: Disk, E: Disk, H: Hook, O: Sink>(
     alloc: Global,
     words: &[String],
     p: &mut Platform<F, T, D, E, H>,
@@ -33,17 +33,16 @@ pub fn run_words<F: Flash, T: Tpm, D: Disk, E: Disk, H: Hook, O: Sink>(
     }
 }
 
-/// Works a command on a board on whose disks nothing is pending, and prints its answer.
-pub fn run_command<F: Flash, T: Tpm, D: Disk, E: Disk, H: Hook, O: Sink>(
+// Works a command on a board, and prints its answer.
+fn run_command<F: Flash, T: Tpm, D: Disk, E: Disk, H: Hook, O: Sink>(
     alloc: Global,
     command: Command,
     p: &mut Platform<F, T, D, E, H>,
     out: &mut O,
 ) -> Status
     requires { IsSettled (world F.state T.state H.state p.old) }
-    ensures runs { RunsBy (Ok command) (world F.state T.state H.state p.old) (world F.state T.state H.state p.new) (O.state out.old)
+    ensures { RunsBy (Ok command) (world F.state T.state H.state p.old) (world F.state T.state H.state p.new) (O.state out.old)
         (O.state out.new) result }
-    ensures not_usage { result.code ≡ 1 → ⊥ }
 {
     match command {
         Command::Boot(sw) => run_boot(alloc, p, sw, out),

@@ -9,10 +9,12 @@ use Rattle.gpt_core.specs.declared.side.Side.TheVariants.{Primary, Backup}
 use Rattle.gpt_core.specs.Format.{PartitionTable}
 use Rattle.gpt_core.specs.Tables.{IsFairCopy, IsFairDisk}
 
-pub fair_flash_from : (area : ℕ) (old mid new : FlashMedium) → mid.torn ≡ old.torn → IsFairFlash area old new → IsFairFlash area mid new
-fair_flash_from area old mid new same fair =
-    let moved : IsFairFlash area (record mid { torn = old.torn }) new = record { pages = record { each = fair.pages.each } } in
-    subst (λ (logs : Logs). IsFairFlash area (record mid { torn = logs }) new) (sym same) moved
+-- over the bytes that stood before that part
+pub fair_flash_from : (area : ℕ) (bytes : List ℕ) (old mid new : FlashMedium) → mid.bytes ≡ bytes → mid.torn ≡ old.torn → IsFairFlash area bytes (added old.torn new.torn)
+    → IsFairFlash area mid.bytes (added mid.torn new.torn)
+fair_flash_from area bytes old mid new held same fair =
+    subst (λ (b : List ℕ). IsFairFlash area b (added mid.torn new.torn)) (sym held)
+    (subst (λ (logs : Logs). IsFairFlash area bytes (added logs new.torn)) (sym same) fair)
 
 fair_copy_from : (table : PartitionTable) (side : Side) (old mid new : DiskMedium) → mid.sectors ≡ old.sectors → mid.bytes ≡ old.bytes → mid.torn ≡ old.torn
     → IsFairCopy table side old.sectors old.bytes (overlaid old.bytes (added old.torn new.torn))

@@ -12,6 +12,7 @@ pub mod MakingPlans
 pub mod Finishing
 pub mod Findings
 pub mod OneTable
+pub mod OneForm
 pub mod Versions
 pub mod Planned
 pub mod Whole

@@ -18,7 +18,7 @@ use Rattle.board_core.specs.World.{World, counters_on}
 use Rattle.board_core.proofs.Stops.{made_none, made_only_observed, step_cut, step_whole}
 use Rattle.board_core.proofs.TornRange.{grown_same}
 use Rattle.nvstore_core.specs.declared.state.NvState.{NvState}
-use Rattle.nvstore_core.specs.Pages.{IsStateOf, bytes_with_record, calls_to_save}
+use Rattle.nvstore_core.specs.Pages.{IsStateOf, cell_place, bytes_with_record, calls_to_save}
 use Rattle.nvstore_core.specs.Saving.{Saves, KeepsWritten}
 use Rattle.gpt_core.specs.Format.{PartitionTable}
 use Rattle.gpt_core.specs.Tables.{table_in}
@@ -207,7 +207,7 @@ pub record_made : {T E : Type 0} (base area : ℕ) (table : PartitionTable) (sta
     → (IsTrue w.flash.medium.told → IsStateOf area w.flash.medium.bytes state) → Saves {E = E} area state r w.flash flash (Ok tt)
     → CarriesOut base (record { area = area; table = table }) state (Record r ∷ []) w (with_flash w flash) (Ok x)
 record_made base area table state r w flash x settled is h =
-    let calls : calls_to_save state ≡ calls_to_save state + 0 = omega arith in
+    let calls : calls_to_save state r ≡ calls_to_save state r + 0 = omega arith in
     record {
       counts = counts_flash _ w flash (Ok x) refl refl refl refl refl refl refl (step_whole _ _ _ (subst (λ (n : ℕ). MadeChanges w.flash.counters flash.counters n false) calls h.counters));
       frame = frame_flash area w flash settled (frame_saved area state r w.flash flash (Ok tt) h (λ told. subst (λ (logs : Logs). Grown w.flash.medium.torn logs) (sym (h.torn told)) (grown_same w.flash.medium.torn)));
@@ -231,9 +231,9 @@ pub record_failed : {T E : Type 0} (base area : ℕ) (table : PartitionTable) (s
     → ((left keep : ℕ) → w.flash.counters.stop ≡ Armed left keep → 1 ≤ left) → Saves {E = E} area state r w.flash flash (Err e)
     → CarriesOut {T = T} base (record { area = area; table = table }) state (Record r ∷ []) w (with_flash w flash) (Err (flash_fault base))
 record_failed base area table state r w flash e settled armed h =
-    let calls : calls_to_save state ≤ calls_to_save state + 0 = omega arith in
+    let calls : calls_to_save state r ≤ calls_to_save state r + 0 = omega arith in
     record {
-      counts = counts_flash _ w flash (Err (flash_fault base)) refl refl refl refl refl refl refl (step_cut _ _ _ (calls_to_save state) true calls h.counters);
+      counts = counts_flash _ w flash (Err (flash_fault base)) refl refl refl refl refl refl refl (step_cut _ _ _ (calls_to_save state r) true calls h.counters);
       frame = frame_flash area w flash settled (frame_saved area state r w.flash flash (Err e) h h.failed.grown);
       made = tt;
       ends = inr (record {
@@ -244,7 +244,7 @@ record_failed base area table state r w flash e settled armed h =
         done = omega arith;
         device = refl;
         broke = h.broke;
-        fell = λ left keep was dead. let both = died_in w.flash.counters.stop flash.counters.stop (calls_to_save state) left keep armed was dead h.counters.stop in (both.0, omega (arith, both.1));
+        fell = λ left keep was dead. let both = died_in w.flash.counters.stop flash.counters.stop (calls_to_save state r) left keep armed was dead h.counters.stop in (both.0, omega (arith, both.1));
         mid = w;
         mid_frame = frame_same area w settled;
         whole = same_made (record { area = area; table = table }) w;
@@ -254,12 +254,12 @@ record_failed base area table state r w flash e settled armed h =
 
 -- ---- the changes of a plan
 
-keeps_page : (page : Option ℕ) (area next : ℕ) (bytes : List ℕ) → IfSome page (λ (p : ℕ). range bytes (area + 4096 * p) (16 + 16 * next) ≡ range bytes (area + 4096 * p) (16 + 16 * next))
-keeps_page None area next bytes = tt
-keeps_page (Some p) area next bytes = refl
+keeps_page : (page : Option ℕ) (area size : ℕ) (bytes : List ℕ) → IfSome page (λ (p : ℕ). range bytes (area + 4096 * p) size ≡ range bytes (area + 4096 * p) size)
+keeps_page None area size bytes = tt
+keeps_page (Some p) area size bytes = refl
 
 pub keeps_same : (area : ℕ) (state : NvState) (bytes : List ℕ) → KeepsWritten area state bytes bytes
-keeps_same area state bytes = keeps_page state.page area state.next bytes
+keeps_same area state bytes = keeps_page state.page area (cell_place state.form state.next) bytes
 
 -- nothing is pending after a part of a boot
 pub still_settled : {T : Type 0} (base : ℕ) (to : Targets) (state : NvState) (changes : List Change) (old new : World) (result : Result T Fault) → CarriesOut base to state changes old new result → IsSettled new

@@ -5,8 +5,9 @@ use Rattle.board_core.specs.declared.device.Fault.{Fault}
 use Rattle.board_core.specs.Flash.{FlashState, range}
 use Rattle.board_core.specs.Disk.{DiskState}
 use Rattle.board_core.specs.World.{World}
+use Rattle.record_core.specs.Nv.{form_of}
 use Rattle.nvstore_core.specs.declared.state.NvState.{NvState}
-use Rattle.nvstore_core.specs.Pages.{InRange, page_to_write, state_with_record}
+use Rattle.nvstore_core.specs.Pages.{InRange, cell_place, page_to_write, state_with_record}
 use Rattle.nvstore_core.specs.Saving.{SameBut, KeepsWritten}
 use Rattle.nvstore_core.proofs.Twice.{kept_twice}
 use Rattle.gpt_core.specs.Format.{PartitionTable}
@@ -15,8 +16,8 @@ use Rattle.boot_core.specs.declared.found.Found.{Found}
 use Rattle.boot_core.specs.declared.plan.Plan.{Plan}
 use Rattle.boot_core.specs.Changes.{Firmware, Record, Kernel, listed, tabled, state_with}
 use Rattle.boot_core.specs.Carries.{Targets, CarriesOut}
-use Rattle.boot_core.specs.Plan.{first_changes, later_changes}
-use Rattle.boot_core.specs.Steps.{SameDrives, to_of, WritesTable, MakesFirst, MakesLater, Makes}
+use Rattle.boot_core.specs.Plan.{IsOfOneForm, first_changes, later_changes}
+use Rattle.boot_core.specs.Steps.{SameDrives, to_of, WritesTable, StoresIn, MakesFirst, MakesLater, Makes}
 use Rattle.boot_core.proofs.Frames.{same_but_of}
 use Rattle.boot_core.proofs.Carried.{carried_next, carried_cut}
 use Rattle.boot_core.proofs.Making.{keeps_same}
@@ -51,13 +52,15 @@ kept_at_page : (page : Option ℕ) (area many : ℕ) (a b c : List ℕ) → IfSo
 kept_at_page None area many a b c h k = tt
 kept_at_page (Some p) area many a b c h k = k ∙ h
 
--- over both records
-kept_over : (area : ℕ) (was state : NvState) (nv : Option (List ℕ)) (a b c : List ℕ) → state ≡ recorded was nv → InRange was → KeepsWritten area was a b → KeepsWritten area state b c
-    → SameBut (area + 4096 * page_to_write state) 4096 b c → KeepsWritten area was a c
-kept_over area was state None a b c is ranges h k page = kept_at_page was.page area (16 + 16 * was.next) a b c h (subst (λ (s : NvState). KeepsWritten area s b c) is k)
-kept_over area was state (Some r) a b c is ranges h k page =
-    kept_twice area was r a b c ranges h (subst (λ (s : NvState). KeepsWritten area s b c) is k)
-    (subst (λ (s : NvState). SameBut (area + 4096 * page_to_write s) 4096 b c) is page)
+-- over both records, which have one form
+kept_over : (area : ℕ) (was state : NvState) (nv last : Option (List ℕ)) (a b c : List ℕ) → IfSome last (λ s. IfSome nv (λ r. form_of s ≡ form_of r)) → state ≡ recorded was nv → InRange was
+    → KeepsWritten area was a b → KeepsWritten area state b c → StoresIn area state last b c → KeepsWritten area was a c
+kept_over area was state nv None a b c alike is ranges h k page = subst (KeepsWritten area was a) (sym page) h
+kept_over area was state None (Some s) a b c alike is ranges h k page =
+    kept_at_page was.page area (cell_place was.form was.next) a b c h (subst (λ (n : NvState). KeepsWritten area n b c) is k)
+kept_over area was state (Some r) (Some s) a b c alike is ranges h k page =
+    kept_twice area was r s a b c alike ranges h (subst (λ (n : NvState). KeepsWritten area n b c) is k)
+    (subst (λ (n : NvState). SameBut (area + 4096 * page_to_write n s) 4096 b c) is page)
 
 -- ---- the drives
 
@@ -129,15 +132,17 @@ first_both to state plan old mid new first count result is same here there h kep
 
 -- ---- the later ones
 
-page_of : (at : ℕ) (old new : World) → new.flash ≡ old.flash → SameBut at 4096 old.flash.medium.bytes new.flash.medium.bytes
-page_of at old new same = same_but_of at 4096 old.flash.medium.bytes new.flash.medium.bytes (ap (λ (f : FlashState). f.medium.bytes) same)
+page_of : (area : ℕ) (state : NvState) (change : Option (List ℕ)) (old new : World) → new.flash ≡ old.flash → StoresIn area state change old.flash.medium.bytes new.flash.medium.bytes
+page_of area state None old new same = ap (λ (f : FlashState). f.medium.bytes) same
+page_of area state (Some r) old new same =
+    same_but_of (area + 4096 * page_to_write state r) 4096 old.flash.medium.bytes new.flash.medium.bytes (ap (λ (f : FlashState). f.medium.bytes) same)
 
 pub later_table : {T U : Type 0} (done : ℕ) (to : Targets) (state : NvState) (plan : Plan) (old new : World) (fault : Fault) → new.flash ≡ old.flash → WritesTable {T = T} plan.table to.table old new (Err fault)
     → CarriesOut {T = T} done to state (tabled plan.table) old new (Err fault) → MakesLater {T = U} done to state plan old new (Err fault)
 later_table done to state plan old new fault same drives h = record {
   carried = carried_cut done to state (tabled plan.table) (listed Kernel plan.kernel ++ listed Record plan.last) old new fault h;
   kept = λ told. kept_of to.area state old new same;
-  page = λ told. page_of (to.area + 4096 * page_to_write state) old new same;
+  page = λ told. page_of to.area state plan.last old new same;
   drives = writes_err plan.table to.table old new fault drives;
 }
 
@@ -148,7 +153,7 @@ later_kernel done to state plan old mid new first count fault is same same' driv
   carried = carried_next done count to state state (tabled plan.table) (listed Kernel plan.kernel ++ listed Record plan.last) old mid new first (Err fault) is h (sym (table_state plan.table state))
       (carried_cut count to state (listed Kernel plan.kernel) (listed Record plan.last) mid new fault k);
   kept = λ told. kept_of to.area state old new (same' ∙ same);
-  page = λ told. page_of (to.area + 4096 * page_to_write state) old new (same' ∙ same);
+  page = λ told. page_of to.area state plan.last old new (same' ∙ same);
   drives = writes_then plan.table to.table old mid new first (Err fault) drives drives';
 }
 
@@ -157,7 +162,7 @@ pub later_all : {T S U : Type 0} (done : ℕ) (to : Targets) (state : NvState) (
     → SameDrives mid last → SameDrives last new → CarriesOut done to state (tabled plan.table) old mid (Ok first) → CarriesOut count to state (listed Kernel plan.kernel) mid last (Ok second)
     → CarriesOut count' to state (listed Record plan.last) last new result
     → (IsTrue last.flash.medium.told → KeepsWritten to.area state last.flash.medium.bytes new.flash.medium.bytes)
-    → (IsTrue last.flash.medium.told → SameBut (to.area + 4096 * page_to_write state) 4096 last.flash.medium.bytes new.flash.medium.bytes) → MakesLater done to state plan old new result
+    → (IsTrue last.flash.medium.told → StoresIn to.area state plan.last last.flash.medium.bytes new.flash.medium.bytes) → MakesLater done to state plan old new result
 later_all done to state plan old mid last new first second count count' result is is' same same' drives drives' drives'' h k l kept page =
     let all : last.flash ≡ old.flash = same' ∙ same in
     record {
@@ -167,7 +172,7 @@ later_all done to state plan old mid last new first second count count' result i
           subst (λ (f : FlashState). KeepsWritten to.area state f.medium.bytes new.flash.medium.bytes) all
           (kept (subst (λ (f : FlashState). IsTrue f.medium.told) (sym all) told));
       page = λ told.
-          subst (λ (f : FlashState). SameBut (to.area + 4096 * page_to_write state) 4096 f.medium.bytes new.flash.medium.bytes) all
+          subst (λ (f : FlashState). StoresIn to.area state plan.last f.medium.bytes new.flash.medium.bytes) all
           (page (subst (λ (f : FlashState). IsTrue f.medium.told) (sym all) told));
       drives = writes_then plan.table to.table old mid new first result drives (same_drives mid last new drives' drives'');
     }
@@ -183,14 +188,14 @@ makes_cut table found plan old new fault h = record {
 }
 
 pub makes_both : {T U : Type 0} (table : PartitionTable) (found : Found) (plan : Plan) (state : NvState) (old mid new : World) (first : T) (count : ℕ) (result : Result U Fault) → count ≡ length (first_changes plan)
-    → state ≡ fold state_with found.state (first_changes plan) → InRange found.state → MakesFirst (to_of found table) found.state plan old mid (Ok first)
+    → IsOfOneForm plan → state ≡ fold state_with found.state (first_changes plan) → InRange found.state → MakesFirst (to_of found table) found.state plan old mid (Ok first)
     → MakesLater count (to_of found table) state plan mid new result → Makes table found plan old new result
-makes_both table found plan state old mid new first count result is now ranges h k =
+makes_both table found plan state old mid new first count result is alike now ranges h k =
     let to : Targets = to_of found table in
     record {
       carried = carried_next 0 count to found.state state (first_changes plan) (later_changes plan) old mid new first result (omega (arith, is)) h.carried now k.carried;
       kept = λ told.
           let told' : IsTrue mid.flash.medium.told = subst IsTrue (sym h.carried.frame.flash.told) told in
-          kept_over found.map.nvram.at found.state state plan.nv old.flash.medium.bytes mid.flash.medium.bytes new.flash.medium.bytes (now ∙ first_state plan.firmware plan.nv found.state) ranges (h.kept told) (k.kept told') (k.page told');
+          kept_over found.map.nvram.at found.state state plan.nv plan.last old.flash.medium.bytes mid.flash.medium.bytes new.flash.medium.bytes alike (now ∙ first_state plan.firmware plan.nv found.state) ranges (h.kept told) (k.kept told') (k.page told');
       drives = writes_after plan.table table old mid new result h.drives k.drives;
     }

@@ -40,9 +40,10 @@ use Rattle.boot_core.specs.Slots.{slot_asked, HoldsFirmware, taken_firmware}
 use Rattle.boot_core.specs.Drives.{drive_of, rules_of, recovery_of, drive_asked, seen_on, Look, asked_at, table_by, table_after_look}
 use Rattle.boot_core.specs.Plan.{boot_mode_of, hand_of, stick_plan_of, disk_plan_of, drive_plan_of, slot_look, selected_answer, slot_plan_of, look_by, reboot_plan_of}
 use Rattle.boot_core.specs.Plan.{enables_dev, enabling_plan_of, recovery_hand_of, recovery_outcome, recovery_plan_of, recovery_look, manual_plan_of, missing_subcode}
-use Rattle.boot_core.specs.Plan.{screen_plan_of, plan_in, look_in, plan_of, look_of}
+use Rattle.boot_core.specs.Plan.{IsOfOneForm, screen_plan_of, plan_in, look_in, plan_of, look_of}
 use Rattle.boot_core.specs.Hands.{kernel_in, HoldsKernel, HoldsHand, HoldsOutcome, handed_by}
 use Rattle.board_core.specs.Drive.{same_drive}
+use Rattle.boot_core.proofs.OneForm.{one_form_of_drive}
 use Rattle.boot_core.specs.Steps.{SameDrives, IsTold, Looks, LooksAtDrive, ChecksSlot, IsFromDisk, ReadsAtMost, Plans, PlansSlot, PlansRecovery, PlansBoot}
 use Rattle.boot_core.proofs.Looking.{looks_none, looks_then, looks_as, looks_err}
 use Rattle.boot_core.proofs.Verified.{ok_is}
@@ -260,6 +261,7 @@ plan_failed sw found developer old new room fault h = record {
   whole = λ told. tt;
   firmware = tt;
   kernel = tt;
+  alike = tt;
   ready = tt;
   table = λ told. tt;
   agree = λ told. tt;
@@ -278,6 +280,7 @@ plan_bad sw found developer old new room fault plan h is version =
       whole = λ told. is ∙ ap (λ (a : Result SlotOk SlotFault). slot_plan_of sw found developer a old) (h.whole told.flash told.hook);
       firmware = version;
       kernel = subst (λ (p : Plan). IfSome p.kernel (RaisesKernel found.kernel)) (sym is) tt;
+      alike = subst IsOfOneForm (sym is) tt;
       ready = λ wanted. absurd (false≢true (sym unwritten ∙ wanted));
       table = λ told wanted. absurd (false≢true (sym unwritten ∙ wanted));
       agree = λ told from none. absurd (subst (λ (p : Plan). IsFromDisk p.outcome) is from);
@@ -313,6 +316,7 @@ plan_unseen sw found developer old mid new room slot ok fault h k =
       whole = λ told. tt;
       firmware = tt;
       kernel = tt;
+      alike = tt;
       ready = tt;
       table = λ told. tt;
       agree = λ told. tt;
@@ -339,6 +343,7 @@ plan_good sw found developer old mid new room ok what plan h k taken is version 
       whole = λ told. is ∙ ap (drive_plan_of found developer ok on) (from.seen told) ∙ ap (λ (a : Result SlotOk SlotFault). slot_plan_of sw found developer a old) (h.whole told.flash told.hook);
       firmware = version;
       kernel = kernel;
+      alike = subst IsOfOneForm (sym is) (one_form_of_drive found developer ok (drive_of sw found developer) what);
       ready = λ wanted. disk_ready on new room.gpt (wants wanted).0 (k.ready (wants wanted).1);
       table = λ told wanted.
           held_table (slot_look sw found developer ok) old room.gpt (from.holds told (wants wanted).1)
@@ -383,6 +388,7 @@ plan_enabling sw found w room plan enables is version =
       whole = λ told. is ∙ sym (by_switch sw found w true enables);
       firmware = version;
       kernel = subst (λ (p : Plan). IfSome p.kernel (RaisesKernel found.kernel)) (sym is) tt;
+      alike = subst IsOfOneForm (sym is) tt;
       ready = λ wanted. absurd (false≢true (sym unwritten ∙ wanted));
       table = λ told wanted. absurd (false≢true (sym unwritten ∙ wanted));
       agree = λ told from none. absurd (subst (λ (p : Plan). IsFromDisk p.outcome) is from);
@@ -408,6 +414,7 @@ plan_unsought sw found old new room fault enables k = record {
   whole = λ told. tt;
   firmware = tt;
   kernel = tt;
+  alike = tt;
   ready = tt;
   table = λ told. tt;
   agree = λ told. tt;
@@ -443,6 +450,7 @@ plan_recovered sw found old new room what plan enables k none is =
       whole = λ told. is ∙ ap (recovery_plan_of found) (from.seen told) ∙ sym (by_switch sw found old false enables);
       firmware = subst (λ (p : Plan). IfSome p.firmware (RaisesVersion found.firmware)) (sym is) tt;
       kernel = subst (λ (p : Plan). IfSome p.kernel (RaisesKernel found.kernel)) (sym is) tt;
+      alike = subst IsOfOneForm (sym is) tt;
       ready = λ wanted. absurd (false≢true (sym unwritten ∙ wanted));
       table = λ told wanted. absurd (false≢true (sym unwritten ∙ wanted));
       agree = λ told out others. absurd (not_from_disk found (missing_subcode what) (kernel_of what) (subst (λ (p : Plan). IsFromDisk p.outcome) is out));
@@ -470,6 +478,7 @@ plan_broken sw found reason subcode w room plan is =
       whole = λ told. is;
       firmware = subst (λ (p : Plan). IfSome p.firmware (RaisesVersion found.firmware)) (sym is) tt;
       kernel = subst (λ (p : Plan). IfSome p.kernel (RaisesKernel found.kernel)) (sym is) tt;
+      alike = subst IsOfOneForm (sym is) tt;
       ready = λ wanted. absurd (false≢true (sym unwritten ∙ wanted));
       table = λ told wanted. absurd (false≢true (sym unwritten ∙ wanted));
       agree = λ told from none. absurd (subst (λ (p : Plan). IsFromDisk p.outcome) is from);

@@ -1,10 +1,12 @@
 -- What is left after a fault, as the state after so many changes or one more.
-use Rattle.std.proofs.Common.{◌≡◌, ℕ, ◌+◌, List, [], ◌∷◌, ◌++◌, length, take, drop, Bool, Option, refl, sym, ap, subst, ◌∙◌, arith, inl, inr, append_assoc, length-append}
+use Rattle.std.proofs.Common.{◌≡◌, ◌⊎◌, ℕ, ◌+◌, List, [], ◌∷◌, ◌++◌, length, take, drop, Bool, true, false, Option, refl, sym, ap, subst, ◌∙◌, arith, inl, inr, append_assoc, length-append}
 use Rattle.std.specs.Prelude.{fold, All, IsTrue}
+use Rattle.std.proofs.lemmas.Bool.{false≢true}
 use Rattle.std.proofs.lemmas.List.Sums.{fold-append}
 use Rattle.std.proofs.lemmas.List.{take_at, drop_at, take_all, append-nil}
 use Rattle.board_core.specs.declared.counters.FuseState.TheVariants.{Armed, Dead}
 use Rattle.board_core.specs.declared.device.Device.{Device}
+use Rattle.board_core.specs.declared.device.Device.TheVariants as device
 use Rattle.board_core.specs.declared.device.Fault.{Fault}
 use Rattle.board_core.specs.Counters.{Rose}
 use Rattle.board_core.specs.Torn.{Logs, added}
@@ -15,13 +17,11 @@ use Rattle.board_core.specs.World.{World, counters_on}
 use Rattle.board_core.proofs.TornRange.{added_same}
 use Rattle.gpt_core.specs.Commits.{IsOfCommit, bytes_with_table}
 use Rattle.nvstore_core.specs.Pages.{record_in}
-use Rattle.nvstore_core.specs.Fair.{IsFairFlash}
 use Rattle.gpt_core.specs.Format.{PartitionTable}
-use Rattle.gpt_core.specs.Tables.{table_in, IsFairDisk}
+use Rattle.gpt_core.specs.Tables.{table_on}
 use Rattle.boot_core.specs.Changes.{Change, Firmware, Record, Table, Kernel, flash_with, disk_with, spaces_with, record_with, table_with, device_of, calls_on}
 use Rattle.boot_core.specs.Carries.{Targets, Frame, IsMade, NotesTable, Fails, EndsBetween, EndsIn, EndsAt, OldOrNew}
-use Rattle.boot_core.specs.Steps.{IsTold}
-use Rattle.boot_core.specs.Boots.{BootPlan, State, state_of, changed_state, MayHaveMade, HasNoRecord, HasNoTable, AtFault}
+use Rattle.boot_core.specs.Boots.{BootPlan, StandsAfter, IsFairOn, DoneOrNext, MayHaveMade, HasNoRecord, HasNoTable, AtFault}
 use Rattle.boot_core.proofs.Fairness.{fair_flash_from, fair_disk_from}
 
 -- ---- changes that leave a device alone
@@ -97,91 +97,131 @@ disk_failed to (Firmware b) mid new other failed = failed.2
 disk_failed to Table mid new other failed = absurd (other refl)
 disk_failed to (Kernel b) mid new other failed = failed.2
 
--- ---- states
+-- ---- what stands after the change that failed, part by part
 
--- a state after changes, part by part
-folded : (table : PartitionTable) (changes : List Change) (nv : Option (List ℕ)) (spaces : Spaces) (found : Option PartitionTable)
-    → fold (changed_state table) (record { nv = nv; spaces = spaces; table = found }) changes ≡ (record { nv = fold record_with nv changes; spaces = fold spaces_with spaces changes; table = fold (table_with table) found changes })
-folded table [] nv spaces found = refl
-folded table (change ∷ rest) nv spaces found = folded table rest (record_with nv change) (spaces_with spaces change) (table_with table found change)
+-- a part that the change leaves alone
+unmoved : {A : Type 0} (f : A → Change → A) (start : A) (before : List Change) (next : Change) → ((a : A) → f a next ≡ a) → fold f start (before ++ next ∷ []) ≡ fold f start before
+unmoved f start before next alone = fold-append f start before (next ∷ []) ∙ alone (fold f start before)
 
-abbrev state : Option (List ℕ) → Spaces → Option PartitionTable → State
-state nv spaces found = record { nv = nv; spaces = spaces; table = found }
+-- what stood before the change, or what it makes of that
+moved : {A : Type 0} (f : A → Change → A) (start : A) (before : List Change) (next : Change) (now : A) → OldOrNew (fold f start before) (f (fold f start before) next) now
+    → OldOrNew (fold f start before) (fold f start (before ++ next ∷ [])) now
+moved f start before next now (inl kept) = inl kept
+moved f start before next now (inr made) = inr (made ∙ sym (fold-append f start before (next ∷ [])))
 
-same_state : (nv nv' : Option (List ℕ)) (spaces spaces' : Spaces) (found found' : Option PartitionTable) → nv ≡ nv' → spaces ≡ spaces' → found ≡ found' → state nv spaces found ≡ state nv' spaces' found'
-same_state nv nv' spaces spaces' found found' a b c = ap (λ (x : Option (List ℕ)). state x spaces found) a ∙ ap (λ (x : Spaces). state nv' x found) b ∙ ap (λ (x : Option PartitionTable). state nv' spaces' x) c
+-- the record that stands after it
+nv_left : (to : Targets) (before : List Change) (next : Change) (old mid new : World) → IsTrue old.flash.medium.told → Frame to.area old mid → IsMade to before old mid → Fails to next mid new
+    → IsFairOn device.Flash to before old new
+    → OldOrNew (fold record_with (record_in to.area old.flash.medium.bytes) before) (fold record_with (record_in to.area old.flash.medium.bytes) (before ++ next ∷ []))
+    (record_in to.area new.flash.medium.bytes)
+nv_left to before (Record r) old mid new told frame made failed fair =
+    let h = made.flash told in
+    elim (failed.0.nv (subst IsTrue (sym frame.flash.told) told) (fair_flash_from to.area _ old.flash.medium mid.flash.medium new.flash.medium h.bytes h.torn fair)) [
+      | inl kept ↦ inl (kept ∙ h.stands)
+      | inr stored ↦ inr (stored ∙ sym (fold-append record_with (record_in to.area old.flash.medium.bytes) before (Record r ∷ [])))
+    ]
+nv_left to before (Firmware b) old mid new told frame made failed fair = inl (ap (λ (m : FlashMedium). record_in to.area m.bytes) failed.1 ∙ (made.flash told).stands)
+nv_left to before Table old mid new told frame made failed fair = inl (ap (λ (m : FlashMedium). record_in to.area m.bytes) failed.2 ∙ (made.flash told).stands)
+nv_left to before (Kernel b) old mid new told frame made failed fair = inl (ap (λ (m : FlashMedium). record_in to.area m.bytes) failed.1 ∙ (made.flash told).stands)
 
--- the state after the changes before one, and after that one
-abbrev after_before : Targets → List Change → World → State
-after_before to before old = fold (changed_state to.table) (state_of to.area old) before
-
-abbrev table_of : World → Option PartitionTable
-table_of w = table_in w.disk.medium.sectors w.disk.medium.bytes
-
--- the state that stands, where its parts are those after the changes before one
-stays : (to : Targets) (before : List Change) (old new : World) → record_in to.area new.flash.medium.bytes ≡ fold record_with (record_in to.area old.flash.medium.bytes) before
-    → new.tpm.spaces ≡ fold spaces_with old.tpm.spaces before → table_of new ≡ fold (table_with to.table) (table_of old) before
-    → state_of to.area new ≡ after_before to before old
-stays to before old new nv spaces found = same_state _ _ _ _ _ _ nv spaces found ∙ sym (folded to.table before _ _ _)
-
--- and after that one
-moves : (to : Targets) (before : List Change) (next : Change) (old new : World) → record_in to.area new.flash.medium.bytes ≡ record_with (fold record_with (record_in to.area old.flash.medium.bytes) before) next
-    → new.tpm.spaces ≡ spaces_with (fold spaces_with old.tpm.spaces before) next → table_of new ≡ table_with to.table (fold (table_with to.table) (table_of old) before) next
-    → state_of to.area new ≡ after_before to (before ++ next ∷ []) old
-moves to before next old new nv spaces found =
-    same_state _ _ _ _ _ _ nv spaces found ∙ ap (λ (s : State). changed_state to.table s next) (sym (folded to.table before _ _ _)) ∙ sym (fold-append (changed_state to.table) (state_of to.area old) before (next ∷ []))
-
--- ---- the change that failed
-
--- the spaces after it
-spaces_left : (to : Targets) (before : List Change) (next : Change) (old mid new : World) → IsTrue old.tpm.told → mid.tpm.told ≡ old.tpm.told → IsMade to before old mid → Fails to next mid new
+-- the spaces
+spaces_left : (to : Targets) (before : List Change) (next : Change) (old mid new : World) → IsTrue old.tpm.told → Frame to.area old mid → IsMade to before old mid → Fails to next mid new
     → OldOrNew (fold spaces_with old.tpm.spaces before) (fold spaces_with old.tpm.spaces (before ++ next ∷ [])) new.tpm.spaces
-spaces_left to before (Record r) old mid new told same made failed = inl (failed.1 ∙ made.spaces told)
-spaces_left to before Table old mid new told same made failed = inl (failed.1 ∙ made.spaces told)
-spaces_left to before (Firmware b) old mid new told same made failed =
-    elim (failed.0 (subst IsTrue (sym same) told)) [
-      | inl kept ↦ inl (kept ∙ made.spaces told)
-      | inr written ↦ inr (written ∙ ap (λ (s : Spaces). spaces_with s (Firmware b)) (made.spaces told) ∙ sym (fold-append spaces_with old.tpm.spaces before (Firmware b ∷ [])))
+spaces_left to before (Record r) old mid new told frame made failed = inl (failed.1 ∙ made.spaces told)
+spaces_left to before Table old mid new told frame made failed = inl (failed.1 ∙ made.spaces told)
+spaces_left to before (Firmware b) old mid new told frame made failed =
+    moved spaces_with old.tpm.spaces before (Firmware b) new.tpm.spaces
+    (subst (λ (s : Spaces). OldOrNew s (spaces_with s (Firmware b)) new.tpm.spaces) (made.spaces told) (failed.0 (subst IsTrue (sym frame.tpm_told) told)))
+spaces_left to before (Kernel b) old mid new told frame made failed =
+    moved spaces_with old.tpm.spaces before (Kernel b) new.tpm.spaces
+    (subst (λ (s : Spaces). OldOrNew s (spaces_with s (Kernel b)) new.tpm.spaces) (made.spaces told) (failed.0 (subst IsTrue (sym frame.tpm_told) told)))
+
+-- the table
+table_left : (to : Targets) (before : List Change) (next : Change) (old mid new : World) → IsTrue old.disk.medium.told → Frame to.area old mid → (next ≡ Table → HasNoTable before) → IsMade to before old mid
+    → Fails to next mid new → IsFairOn device.Disk to before old new
+    → OldOrNew (fold (table_with to.table) (table_on old.disk.medium) before) (fold (table_with to.table) (table_on old.disk.medium) (before ++ next ∷ [])) (table_on new.disk.medium)
+table_left to before Table old mid new told frame one made failed fair =
+    let h = made.disk told in
+    elim (failed.0.stands (subst IsTrue (sym frame.disk.told) told) (fair_disk_from to.table _ _ _ frame.disk.sectors (disk_kept to before old mid told made (one refl)) h.torn fair)) [
+      | inl kept ↦ inl (kept ∙ h.stands)
+      | inr written ↦ inr (written ∙ sym (fold-append (table_with to.table) (table_on old.disk.medium) before (Table ∷ [])))
     ]
-spaces_left to before (Kernel b) old mid new told same made failed =
-    elim (failed.0 (subst IsTrue (sym same) told)) [
-      | inl kept ↦ inl (kept ∙ made.spaces told)
-      | inr written ↦ inr (written ∙ ap (λ (s : Spaces). spaces_with s (Kernel b)) (made.spaces told) ∙ sym (fold-append spaces_with old.tpm.spaces before (Kernel b ∷ [])))
+table_left to before (Record r) old mid new told frame one made failed fair = inl (ap table_on failed.2 ∙ (made.disk told).stands)
+table_left to before (Firmware b) old mid new told frame one made failed fair = inl (ap table_on failed.2 ∙ (made.disk told).stands)
+table_left to before (Kernel b) old mid new told frame one made failed fair = inl (ap table_on failed.2 ∙ (made.disk told).stands)
+
+-- ---- one state, where the device that failed is fair
+
+abbrev OldOrNext : Targets → List Change → Change → World → World → Type 0
+OldOrNext to before next old new = StandsAfter to before old new ⊎ StandsAfter to (before ++ next ∷ []) old new
+
+-- one choice, whether or not the device tells what it holds
+one_of : {P Q : Type 0} (told : Bool) → (IsTrue told → P ⊎ Q) → (IsTrue told → P) ⊎ (IsTrue told → Q)
+one_of true either = elim (either refl) [ inl p ↦ inl (λ told. p) | inr q ↦ inr (λ told. q) ]
+one_of false either = inl (λ told. absurd (false≢true told))
+
+-- two parts that the change leaves alone, and the third
+stands_by_nv : (to : Targets) (before : List Change) (r : List ℕ) (old new : World)
+    → (IsTrue old.flash.medium.told → OldOrNew (fold record_with (record_in to.area old.flash.medium.bytes) before) (fold record_with (record_in to.area old.flash.medium.bytes) (before ++ Record r ∷ []))
+    (record_in to.area new.flash.medium.bytes))
+    → (IsTrue old.tpm.told → new.tpm.spaces ≡ fold spaces_with old.tpm.spaces before)
+    → (IsTrue old.disk.medium.told → table_on new.disk.medium ≡ fold (table_with to.table) (table_on old.disk.medium) before)
+    → OldOrNext to before (Record r) old new
+stands_by_nv to before r old new nv spaces table =
+    elim (one_of old.flash.medium.told nv) [
+      | inl kept ↦ inl (record { nv = kept; spaces = spaces; table = table })
+      | inr made ↦ inr (record {
+        nv = made;
+        spaces = λ told. spaces told ∙ sym (unmoved spaces_with old.tpm.spaces before (Record r) (λ s. refl));
+        table = λ told. table told ∙ sym (unmoved (table_with to.table) (table_on old.disk.medium) before (Record r) (λ t. refl));
+      })
     ]
 
--- by the kind of the change that failed
-left_by : (to : Targets) (before : List Change) (next : Change) (old mid new : World) → IsTold old → Frame to.area old mid
-    → IsFairFlash to.area old.flash.medium new.flash.medium → IsFairDisk to.table old.disk.medium new.disk.medium → (next ≡ Table → HasNoTable before) → IsMade to before old mid → Fails to next mid new
-    → OldOrNew (after_before to before old) (after_before to (before ++ next ∷ []) old) (state_of to.area new)
-left_by to before (Record r) old mid new told same fair fair' one made failed =
-    let spaces = failed.1 ∙ made.spaces told.tpm in
-    let found = ap (λ (m : DiskMedium). table_in m.sectors m.bytes) failed.2 ∙ (made.disk told.disk).stands in
-    elim (failed.0.nv (subst IsTrue (sym same.flash.told) told.flash) (fair_flash_from to.area _ _ _ (made.flash told.flash).torn fair)) [
-      | inl kept ↦ inl (stays to before old new (kept ∙ (made.flash told.flash).stands) spaces found)
-      | inr stored ↦ inr (moves to before (Record r) old new stored spaces found)
+stands_by_spaces : (to : Targets) (before : List Change) (next : Change) (old new : World) → ((nv : Option (List ℕ)) → record_with nv next ≡ nv)
+    → ((t : Option PartitionTable) → table_with to.table t next ≡ t)
+    → (IsTrue old.flash.medium.told → record_in to.area new.flash.medium.bytes ≡ fold record_with (record_in to.area old.flash.medium.bytes) before)
+    → (IsTrue old.tpm.told → OldOrNew (fold spaces_with old.tpm.spaces before) (fold spaces_with old.tpm.spaces (before ++ next ∷ [])) new.tpm.spaces)
+    → (IsTrue old.disk.medium.told → table_on new.disk.medium ≡ fold (table_with to.table) (table_on old.disk.medium) before)
+    → OldOrNext to before next old new
+stands_by_spaces to before next old new no_nv no_table nv spaces table =
+    elim (one_of old.tpm.told spaces) [
+      | inl kept ↦ inl (record { nv = nv; spaces = kept; table = table })
+      | inr made ↦ inr (record {
+        nv = λ told. nv told ∙ sym (unmoved record_with (record_in to.area old.flash.medium.bytes) before next no_nv);
+        spaces = made;
+        table = λ told. table told ∙ sym (unmoved (table_with to.table) (table_on old.disk.medium) before next no_table);
+      })
     ]
-left_by to before Table old mid new told same fair fair' one made failed =
-    let spaces = failed.1 ∙ made.spaces told.tpm in
-    let nv = ap (λ (m : FlashMedium). record_in to.area m.bytes) failed.2 ∙ (made.flash told.flash).stands in
-    let bytes = disk_kept to before old mid told.disk made (one refl) in
-    elim (failed.0.stands (subst IsTrue (sym same.disk.told) told.disk) (fair_disk_from to.table _ _ _ same.disk.sectors bytes (made.disk told.disk).torn fair')) [
-      | inl kept ↦ inl (stays to before old new nv spaces (kept ∙ (made.disk told.disk).stands))
-      | inr written ↦ inr (moves to before Table old new nv spaces written)
+
+stands_by_table : (to : Targets) (before : List Change) (old new : World)
+    → (IsTrue old.flash.medium.told → record_in to.area new.flash.medium.bytes ≡ fold record_with (record_in to.area old.flash.medium.bytes) before)
+    → (IsTrue old.tpm.told → new.tpm.spaces ≡ fold spaces_with old.tpm.spaces before)
+    → (IsTrue old.disk.medium.told → OldOrNew (fold (table_with to.table) (table_on old.disk.medium) before) (fold (table_with to.table) (table_on old.disk.medium) (before ++ Table ∷ [])) (table_on new.disk.medium))
+    → OldOrNext to before Table old new
+stands_by_table to before old new nv spaces table =
+    elim (one_of old.disk.medium.told table) [
+      | inl kept ↦ inl (record { nv = nv; spaces = spaces; table = kept })
+      | inr made ↦ inr (record {
+        nv = λ told. nv told ∙ sym (unmoved record_with (record_in to.area old.flash.medium.bytes) before Table (λ r. refl));
+        spaces = λ told. spaces told ∙ sym (unmoved spaces_with old.tpm.spaces before Table (λ s. refl));
+        table = made;
+      })
     ]
-left_by to before (Firmware b) old mid new told same fair fair' one made failed =
-    let nv = ap (λ (m : FlashMedium). record_in to.area m.bytes) failed.1 ∙ (made.flash told.flash).stands in
-    let found = ap (λ (m : DiskMedium). table_in m.sectors m.bytes) failed.2 ∙ (made.disk told.disk).stands in
-    elim (failed.0 (subst IsTrue (sym same.tpm_told) told.tpm)) [
-      | inl kept ↦ inl (stays to before old new nv (kept ∙ made.spaces told.tpm) found)
-      | inr written ↦ inr (moves to before (Firmware b) old new nv (written ∙ ap (λ (s : Spaces). spaces_with s (Firmware b)) (made.spaces told.tpm)) found)
-    ]
-left_by to before (Kernel b) old mid new told same fair fair' one made failed =
-    let nv = ap (λ (m : FlashMedium). record_in to.area m.bytes) failed.1 ∙ (made.flash told.flash).stands in
-    let found = ap (λ (m : DiskMedium). table_in m.sectors m.bytes) failed.2 ∙ (made.disk told.disk).stands in
-    elim (failed.0 (subst IsTrue (sym same.tpm_told) told.tpm)) [
-      | inl kept ↦ inl (stays to before old new nv (kept ∙ made.spaces told.tpm) found)
-      | inr written ↦ inr (moves to before (Kernel b) old new nv (written ∙ ap (λ (s : Spaces). spaces_with s (Kernel b)) (made.spaces told.tpm)) found)
-    ]
+
+state_left : (to : Targets) (before : List Change) (next : Change) (old mid new : World) → Frame to.area old mid → (next ≡ Table → HasNoTable before) → IsMade to before old mid → Fails to next mid new
+    → IsFairOn (device_of next) to before old new → OldOrNext to before next old new
+state_left to before (Record r) old mid new frame one made failed fair =
+    stands_by_nv to before r old new (λ told. nv_left to before (Record r) old mid new told frame made failed fair) (λ told. failed.1 ∙ made.spaces told)
+    (λ told. ap table_on failed.2 ∙ (made.disk told).stands)
+state_left to before (Firmware b) old mid new frame one made failed fair =
+    stands_by_spaces to before (Firmware b) old new (λ r. refl) (λ t. refl) (λ told. ap (λ (m : FlashMedium). record_in to.area m.bytes) failed.1 ∙ (made.flash told).stands)
+    (λ told. spaces_left to before (Firmware b) old mid new told frame made failed) (λ told. ap table_on failed.2 ∙ (made.disk told).stands)
+state_left to before Table old mid new frame one made failed fair =
+    stands_by_table to before old new (λ told. ap (λ (m : FlashMedium). record_in to.area m.bytes) failed.2 ∙ (made.flash told).stands) (λ told. failed.1 ∙ made.spaces told)
+    (λ told. table_left to before Table old mid new told frame one made failed fair)
+state_left to before (Kernel b) old mid new frame one made failed fair =
+    stands_by_spaces to before (Kernel b) old new (λ r. refl) (λ t. refl) (λ told. ap (λ (m : FlashMedium). record_in to.area m.bytes) failed.1 ∙ (made.flash told).stands)
+    (λ told. spaces_left to before (Kernel b) old mid new told frame made failed) (λ told. ap table_on failed.2 ∙ (made.disk told).stands)
 
 -- ---- places in the list of changes
 
@@ -240,9 +280,13 @@ between plan fault old new frame h =
     ap (take fault.done) h.place ∙ ap (λ (n : ℕ). take n (h.before ++ h.behind)) count ∙ take_at h.before h.behind (length h.before) refl in
     record {
       done = omega (arith, count, ap length h.place, length-append h.before h.behind);
-      prefix = λ told fair.
-          inl (stays plan.to h.before old new (h.whole.flash told.flash).stands (h.whole.spaces told.tpm) (h.whole.disk told.disk).stands
-          ∙ ap (λ (zs : List Change). after_before plan.to zs old) (sym front));
+      prefix = λ fair. inl (subst (λ (zs : List Change). StandsAfter plan.to zs old new) (sym front) (record {
+        nv = λ told. (h.whole.flash told).stands;
+        spaces = h.whole.spaces;
+        table = λ told. (h.whole.disk told).stands;
+      }));
+      nv = λ told fair. inl ((h.whole.flash told).stands ∙ ap (λ (zs : List Change). fold record_with (record_in plan.to.area old.flash.medium.bytes) zs) (sym front));
+      table = λ told fair. inl ((h.whole.disk told).stands ∙ ap (λ (zs : List Change). fold (table_with plan.to.table) (table_on old.disk.medium) zs) (sym front));
       spaces = λ told. inl (h.whole.spaces told ∙ ap (λ (zs : List Change). fold spaces_with old.tpm.spaces zs) (sym front));
       flash = λ told none.
           flash_kept plan.to h.before old new told frame h.whole
@@ -255,6 +299,11 @@ between plan fault old new frame h =
     }
 
 -- ---- a fault in a change
+
+done_or_next : {plan : BootPlan} {fault : Fault} {old new : World} {before after : List Change} → take fault.done plan.changes ≡ before → take (fault.done + 1) plan.changes ≡ after
+    → MayHaveMade plan fault old new → (P : List Change → Type 0) → P before ⊎ P after → DoneOrNext plan fault old new P
+done_or_next front more may P (inl kept) = inl (subst P (sym front) kept)
+done_or_next front more may P (inr made) = inr (may, subst P (sym more) made)
 
 -- it is none of a kind, where no change up to it is
 no_record_here : (before : List Change) (next : Change) → HasNoRecord (before ++ next ∷ []) → (r : List ℕ) → next ≡ Record r → ⊥
@@ -278,16 +327,21 @@ within plan fault old new ends one =
     } in
     record {
       done = omega (arith, count, ap length ends.place, length-append ends.before (ends.next ∷ ends.behind));
-      prefix = λ told fair.
-          elim (left_by plan.to ends.before ends.next old ends.mid new told ends.mid_frame fair.flash fair.disk one ends.whole ends.failed) [
-            | inl kept ↦ inl (kept ∙ ap (λ (zs : List Change). after_before plan.to zs old) (sym front))
-            | inr made ↦ inr (may, made ∙ ap (λ (zs : List Change). after_before plan.to zs old) (sym more))
-          ];
+      prefix = λ fair.
+          let own : IsFairOn (device_of ends.next) plan.to ends.before old new =
+          subst (λ (zs : List Change). IsFairOn (device_of ends.next) plan.to zs old new) front
+          (subst (λ (d : Device). IsFairOn d plan.to (take fault.done plan.changes) old new) ends.device fair) in
+          done_or_next front more may (λ changes. StandsAfter plan.to changes old new) (state_left plan.to ends.before ends.next old ends.mid new ends.mid_frame one ends.whole ends.failed own);
+      nv = λ told fair.
+          done_or_next front more may (λ changes. record_in plan.to.area new.flash.medium.bytes ≡ fold record_with (record_in plan.to.area old.flash.medium.bytes) changes)
+          (nv_left plan.to ends.before ends.next old ends.mid new told ends.mid_frame ends.whole ends.failed
+          (subst (λ (zs : List Change). IsFairOn device.Flash plan.to zs old new) front fair));
       spaces = λ told.
-          elim (spaces_left plan.to ends.before ends.next old ends.mid new told ends.mid_frame.tpm_told ends.whole ends.failed) [
-            | inl kept ↦ inl (kept ∙ ap (λ (zs : List Change). fold spaces_with old.tpm.spaces zs) (sym front))
-            | inr made ↦ inr (may, made ∙ ap (λ (zs : List Change). fold spaces_with old.tpm.spaces zs) (sym more))
-          ];
+          done_or_next front more may (λ changes. new.tpm.spaces ≡ fold spaces_with old.tpm.spaces changes)
+          (spaces_left plan.to ends.before ends.next old ends.mid new told ends.mid_frame ends.whole ends.failed);
+      table = λ told fair.
+          done_or_next front more may (λ changes. table_on new.disk.medium ≡ fold (table_with plan.to.table) (table_on old.disk.medium) changes)
+          (table_left plan.to ends.before ends.next old ends.mid new told ends.mid_frame one ends.whole ends.failed fair);
       flash = λ told none.
           let here : HasNoRecord (ends.before ++ ends.next ∷ []) = subst HasNoRecord more none in
           flash_failed plan.to ends.next ends.mid new (no_record_here ends.before ends.next here) ends.failed

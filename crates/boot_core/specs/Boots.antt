@@ -7,8 +7,11 @@ use Rattle.fwsel_core.specs.Selection.{selected_slot}
 use Rattle.chain_core.specs.Slot.{slot_fault, slot_ok}
 use Rattle.record_core.specs.Space.{firmware_fault, kernel_fault, stored_firmware_version, stored_kernel_version}
 use Rattle.board_core.specs.declared.counters.FuseState.TheVariants.{Armed, Dead}
+use Rattle.board_core.specs.declared.device.Device.{Device}
+use Rattle.board_core.specs.declared.device.Device.TheVariants as device
 use Rattle.board_core.specs.declared.device.Fault.{Fault}
 use Rattle.board_core.specs.Counters.{Rose}
+use Rattle.board_core.specs.Torn.{added}
 use Rattle.board_core.specs.Tpm.{Spaces}
 use Rattle.board_core.specs.World.{World, counters_on}
 use Rattle.rom_core.specs.declared.fault.MapFault.{MapFault}
@@ -17,7 +20,7 @@ use Rattle.nvstore_core.specs.Pages.{record_in, empty_state}
 use Rattle.nvstore_core.specs.Saving.{KeepsWritten}
 use Rattle.nvstore_core.specs.Fair.{IsFairFlash}
 use Rattle.gpt_core.specs.Format.{PartitionTable}
-use Rattle.gpt_core.specs.Tables.{table_in, table_on, IsFairDisk}
+use Rattle.gpt_core.specs.Tables.{table_on, IsFairDisk}
 use Rattle.walk_core.specs.Chosen.{is_good_candidate}
 use Rattle.walk_core.specs.Seen.{copies_agree}
 use Rattle.boot_core.specs.declared.switches.Switches.{Switches}
@@ -26,7 +29,7 @@ use Rattle.boot_core.specs.declared.outcome.Hand.{Hand}
 use Rattle.boot_core.specs.declared.outcome.Outcome.{Outcome}
 use Rattle.boot_core.specs.declared.outcome.Outcome.TheVariants as outcome
 use Rattle.boot_core.specs.declared.plan.Plan.{Plan}
-use Rattle.boot_core.specs.Changes.{Change, Record, Table, spaces_with, record_with, table_with, device_of, calls_on}
+use Rattle.boot_core.specs.Changes.{Change, Record, Table, flash_with, spaces_with, record_with, table_with, device_of, calls_on}
 use Rattle.boot_core.specs.Carries.{Targets, CountsBoard, Frame, IsMade, NotesTable}
 use Rattle.boot_core.specs.Spaces.{IsNoLower}
 use Rattle.boot_core.specs.Facts.{found_of, facts_of}
@@ -87,37 +90,24 @@ abbrev pub look_found : Switches → World → Result Found MapFault → Option 
 look_found sw w (Ok found) = look_of sw found w
 look_found sw w (Err fault) = None
 
--- ---- the state that a board stands for
-
-pub record State : Type 0 where
-  -- the nvdata record that stands, or none
-  pub nv : Option (List ℕ)
-  pub spaces : Spaces
-  -- the partition table of the disk, or none
-  pub table : Option PartitionTable
-
-abbrev pub state_of : ℕ → World → State
-state_of area w =
-    record { nv = record_in area w.flash.medium.bytes; spaces = w.tpm.spaces; table = table_in w.disk.medium.sectors w.disk.medium.bytes }
-
-abbrev pub changed_state : PartitionTable → State → Change → State
-changed_state table s change =
-    record { nv = record_with s.nv change; spaces = spaces_with s.spaces change; table = table_with table s.table change }
-
--- the state after so many changes of a plan
-abbrev pub state_after : BootPlan → ℕ → World → State
-state_after plan count w = fold (changed_state plan.to.table) (state_of plan.to.area w) (take count plan.changes)
-
--- the spaces after so many changes of a plan
-abbrev pub spaces_after : BootPlan → ℕ → Spaces → Spaces
-spaces_after plan count spaces = fold spaces_with spaces (take count plan.changes)
-
 -- ---- a fault
 
--- The torn records that the boot added pass no check that they should not. It is a premise on the devices alone.
-pub record IsFair (plan : BootPlan) (old new : World) : Type 0 where
-  pub flash : IsFairFlash plan.to.area old.flash.medium new.flash.medium
-  pub disk : IsFairDisk plan.to.table old.disk.medium new.disk.medium
+-- What a board stands for after these changes, in each part of which its device tells what it holds.
+pub record StandsAfter (to : Targets) (changes : List Change) (old new : World) : Type 0 where
+  -- the nvdata record that stands, or none
+  pub nv : IsTrue old.flash.medium.told
+      → record_in to.area new.flash.medium.bytes ≡ fold record_with (record_in to.area old.flash.medium.bytes) changes
+  pub spaces : IsTrue old.tpm.told → new.tpm.spaces ≡ fold spaces_with old.tpm.spaces changes
+  -- the partition table of the disk, or none
+  pub table : IsTrue old.disk.medium.told → table_on new.disk.medium ≡ fold (table_with to.table) (table_on old.disk.medium) changes
+
+-- The torn records that the boot added on a device pass no check that they should not, after these changes. It is a premise on that
+-- device alone: the TPM, the stick and the hook leave nothing torn of which anything is to be asked.
+abbrev pub IsFairOn : Device → Targets → List Change → World → World → Type 0
+IsFairOn device.Flash to changes old new =
+    IsFairFlash to.area (fold (flash_with to.area) old.flash.medium.bytes changes) (added old.flash.medium.torn new.flash.medium.torn)
+IsFairOn device.Disk to changes old new = IsFairDisk to.table old.disk.medium new.disk.medium
+IsFairOn other to changes old new = Unit {0}
 
 -- The change after those that are done may have happened: it is one of the device that failed, in a changing call.
 pub record MayHaveMade (plan : BootPlan) (fault : Fault) (old new : World) : Type 0 where
@@ -127,17 +117,9 @@ pub record MayHaveMade (plan : BootPlan) (fault : Fault) (old new : World) : Typ
   pub device : fault.device ≡ device_of next
   pub broke : Rose (counters_on fault.device old).failed_changes (counters_on fault.device new).failed_changes
 
--- the state is that after the changes that are done, or after one more
-abbrev pub LeavesPrefix : BootPlan → Fault → World → World → Type 0
-LeavesPrefix plan fault old new =
-    (state_of plan.to.area new ≡ state_after plan fault.done old)
-    ⊎ (MayHaveMade plan fault old new × (state_of plan.to.area new ≡ state_after plan (fault.done + 1) old))
-
--- the same of the spaces alone
-abbrev pub LeavesSpaces : BootPlan → Fault → World → World → Type 0
-LeavesSpaces plan fault old new =
-    (new.tpm.spaces ≡ spaces_after plan fault.done old.tpm.spaces)
-    ⊎ (MayHaveMade plan fault old new × (new.tpm.spaces ≡ spaces_after plan (fault.done + 1) old.tpm.spaces))
+-- so it is after the changes that are done, or after one more
+abbrev pub DoneOrNext : BootPlan → Fault → World → World → (List Change → Type 0) → Type 0
+DoneOrNext plan fault old new P = P (take fault.done plan.changes) ⊎ (MayHaveMade plan fault old new × P (take (fault.done + 1) plan.changes))
 
 -- none of these changes stores a record
 abbrev pub HasNoRecord : List Change → Type 0
@@ -161,9 +143,16 @@ writes_table (other ∷ rest) = writes_table rest
 pub record AtFault (plan : BootPlan) (fault : Fault) (old new : World) : Type 0 where
   -- so many changes are known to be whole
   pub done : fault.done ≤ length plan.changes
-  pub prefix : IsTold old → IsFair plan old new → LeavesPrefix plan fault old new
-  -- whatever is torn: the spaces
-  pub spaces : IsTrue old.tpm.told → LeavesSpaces plan fault old new
+  -- one state stands, where the device that failed is fair
+  pub prefix : IsFairOn fault.device plan.to (take fault.done plan.changes) old new
+      → DoneOrNext plan fault old new (λ changes. StandsAfter plan.to changes old new)
+  -- and whatever failed, each part under its own premise: nvdata under that on the flash, the table under that on the disk, and the
+  -- spaces under none
+  pub nv : IsTrue old.flash.medium.told → IsFairOn device.Flash plan.to (take fault.done plan.changes) old new → DoneOrNext plan fault old new
+      (λ changes. record_in plan.to.area new.flash.medium.bytes ≡ fold record_with (record_in plan.to.area old.flash.medium.bytes) changes)
+  pub spaces : IsTrue old.tpm.told → DoneOrNext plan fault old new (λ changes. new.tpm.spaces ≡ fold spaces_with old.tpm.spaces changes)
+  pub table : IsTrue old.disk.medium.told → IsFairOn device.Disk plan.to (take fault.done plan.changes) old new → DoneOrNext plan fault old new
+      (λ changes. table_on new.disk.medium ≡ fold (table_with plan.to.table) (table_on old.disk.medium) changes)
   -- the flash, where no record was to be stored by then
   pub flash : IsTrue old.flash.medium.told → HasNoRecord (take (fault.done + 1) plan.changes) → new.flash.medium ≡ old.flash.medium
   -- the bytes of the disk, where no table was to be written by then

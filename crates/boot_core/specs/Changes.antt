@@ -69,10 +69,10 @@ device_of (Record r) = device.Flash
 device_of Table = device.Disk
 device_of (Kernel bytes) = device.Tpm
 
--- how many changing calls a change takes: a space one, a record one or three, both copies of the table six
+-- how many changing calls a change takes: a space one, a record one or three by its form, both copies of the table six
 abbrev pub calls_of : NvState → Change → ℕ
 calls_of state (Firmware bytes) = 1
-calls_of state (Record r) = calls_to_save state
+calls_of state (Record r) = calls_to_save state r
 calls_of state Table = 6
 calls_of state (Kernel bytes) = 1
 

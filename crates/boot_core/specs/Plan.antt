@@ -1,8 +1,9 @@
 -- The plan of a boot: its outcome and its changes, as one function of what the devices hold.
 -- Source: `vb2api_fw_phase1` to `vb2api_fw_phase3` and `vb2api_kernel_phase1` to `vb2api_kernel_finalize` of vboot_reference
 -- (firmware/2lib/2api.c and 2kernel.c). What a person asks for, which is the menus' there, is by switches here.
-use Rattle.std.specs.Prelude.{ℕ, ◌&&◌, not, Bool, true, false, List, ◌++◌, Option, Some, None, Result, Ok, Err, if◌then◌else◌}
+use Rattle.std.specs.Prelude.{◌≡◌, ℕ, IfSome, ◌&&◌, not, Bool, true, false, List, ◌++◌, Option, Some, None, Result, Ok, Err, if◌then◌else◌}
 use Rattle.record_core.specs.declared.space.SpaceFault.{SpaceFault}
+use Rattle.record_core.specs.Nv.{form_of}
 use Rattle.record_core.specs.Space.{firmware_flags}
 use Rattle.fwsel_core.specs.declared.boot_mode.Mode.{Mode}
 use Rattle.fwsel_core.specs.declared.boot_mode.Mode.TheVariants.{Normal, Developer, Manual, Broken}
@@ -58,6 +59,10 @@ abbrev pub missing_subcode : Seen → ℕ
 missing_subcode seen.NoTable = 1
 missing_subcode (seen.Table walked changed) = 2
 
+-- the records of a plan have one form
+abbrev pub IsOfOneForm : Plan → Type 0
+IsOfOneForm plan = IfSome plan.last (λ second. IfSome plan.nv (λ first. form_of second ≡ form_of first))
+
 -- ---- without a good slot
 
 -- the record alone is changed
@@ -99,7 +104,7 @@ boot_mode_of true = boot_mode.Developer
 abbrev pub good_plan_of : Found → Bool → SlotOk → Outcome → (table : Bool) → (kernel last : Option (List ℕ)) → Plan
 good_plan_of found developer ok outcome table kernel last = record {
   outcome = outcome;
-  firmware = version_change found.firmware developer (disables_dev found.state.nv) (selection_of found.state.nv) ok.version;
+  firmware = version_change found.firmware developer found.state.nv (selection_of found.state.nv) ok.version;
   nv = record_change found.state (booted_record found.state.nv);
   table = table;
   kernel = kernel;
@@ -118,7 +123,7 @@ hand_of found developer ok drive kernel stored_kernel = record {
   kernel_version = kernel.version;
   kernel_len = kernel.body_len;
   load_address = kernel.load_address;
-  stored_fw = firmware_stored_after found.firmware (selection_of found.state.nv) ok.version;
+  stored_fw = firmware_stored_after found.firmware found.state.nv (selection_of found.state.nv) ok.version;
   stored_kernel = stored_kernel;
 }
 
@@ -139,8 +144,8 @@ disk_plan_of found developer ok None lowest changed = failed_plan_of found devel
 disk_plan_of found developer ok (Some kernel) lowest changed =
     let on_trial = is_trying (booted_record found.state.nv) in
     good_plan_of found developer ok
-    (outcome.HandOver (hand_of found developer ok Disk kernel (kernel_stored_after found.kernel on_trial lowest))) changed
-    (kernel_change found.kernel on_trial lowest) None
+    (outcome.HandOver (hand_of found developer ok Disk kernel (kernel_stored_after found.kernel found.state.nv on_trial lowest))) changed
+    (kernel_change found.kernel found.state.nv on_trial lowest) None
 
 -- by the drive, and what is seen on it
 abbrev pub drive_plan_of : Found → Bool → SlotOk → Drive → Seen → Plan

@@ -1,12 +1,13 @@
 -- What a boot makes of the nvdata record and of both spaces of the TPM. A change that would change nothing is none.
 -- Source: `vb2_select_fw_slot`, `vb2api_fail` and `vb2api_enable_developer_mode` of vboot_reference (firmware/2lib/2misc.c), and its
 -- roll-forward: `vb2_load_fw_preamble` (2firmware.c), `vb2api_load_kernel` (2load_kernel.c) and `vb2api_kernel_finalize` (2kernel.c).
-use Rattle.std.specs.Prelude.{ℕ, ◌≤◌, nat_lt, Bool, not, bit_or, List, Option, Some, None, Result, Ok, Err, ◌==◌, ◌&&◌, if◌then◌else◌}
+use Rattle.std.specs.Prelude.{ℕ, ◌≤◌, min, max, nat_lt, Bool, not, bit_or, List, Option, Some, None, Result, Ok, Err, ◌==◌, ◌&&◌, if◌then◌else◌}
 use Rattle.std.specs.Str.{bytes_eq}
 use Rattle.record_core.specs.declared.field.NvField.TheVariants as field
 use Rattle.record_core.specs.declared.space.SpaceFault.{SpaceFault}
 use Rattle.record_core.specs.Field.{field_of}
-use Rattle.record_core.specs.Nv.{with_field}
+use Rattle.record_core.specs.declared.nv.Ceiling.TheVariants as ceiling
+use Rattle.record_core.specs.Nv.{with_field, ceiling_of}
 use Rattle.record_core.specs.Space.{firmware_flags, with_firmware_flags, stored_firmware_version, stored_kernel_version}
 use Rattle.record_core.specs.Space.{firmware_versions, with_firmware_versions, kernel_versions, with_kernel_versions}
 use Rattle.fwsel_core.specs.Flags.{flags_after_boot}
@@ -59,6 +60,11 @@ booted_firmware space developer disable_dev = with_firmware_flags space (flags_a
 abbrev pub enabled_firmware : List ℕ → List ℕ
 enabled_firmware space = with_firmware_flags space (bit_or (firmware_flags space) space_developer_mode)
 
+-- The greater of the stored version and the lesser of its rise and a ceiling: one below the stored version lowers nothing.
+-- Source: ceilings are this project's own.
+abbrev pub capped : (stored rise ceiling : ℕ) → ℕ
+capped stored rise ceiling = max stored (min rise ceiling)
+
 -- the result of a boot that came to its end
 abbrev pub success : ℕ
 success = 2
@@ -67,15 +73,19 @@ success = 2
 abbrev pub has_succeeded : Selection → Bool
 has_succeeded selection = (slot_number selection.last_slot == slot_number selection.slot) && (selection.last_result == success)
 
--- The stored version of the firmware after a good slot: that of the slot, where it is over the stored one and the slot came to
--- its end in the boot before.
-abbrev pub new_firmware_version : Selection → (stored version : ℕ) → ℕ
-new_firmware_version selection stored version = if nat_lt stored version && has_succeeded selection then version else stored
+-- The rise of the firmware's version with a good slot: that of the slot, where it is over the stored one and the slot came to its
+-- end in the boot before.
+abbrev pub firmware_rise : Selection → (stored version : ℕ) → ℕ
+firmware_rise selection stored version = if nat_lt stored version && has_succeeded selection then version else stored
+
+-- the stored version of the firmware after a good slot, by the ceiling of the record
+abbrev pub new_firmware_version : (nv : List ℕ) → Selection → (stored version : ℕ) → ℕ
+new_firmware_version nv selection stored version = capped stored (firmware_rise selection stored version) (ceiling_of nv ceiling.Firmware)
 
 -- the space after a good slot
-abbrev pub raised_firmware : List ℕ → Bool → Bool → Selection → ℕ → List ℕ
-raised_firmware space developer disable_dev selection version =
-    with_firmware_versions (booted_firmware space developer disable_dev) (new_firmware_version selection (firmware_versions space) version)
+abbrev pub raised_firmware : List ℕ → Bool → (nv : List ℕ) → Selection → ℕ → List ℕ
+raised_firmware space developer nv selection version =
+    with_firmware_versions (booted_firmware space developer (disables_dev nv)) (new_firmware_version nv selection (firmware_versions space) version)
 
 abbrev pub space_change : List ℕ → List ℕ → Option (List ℕ)
 space_change old new = if bytes_eq new old then None else Some new
@@ -86,10 +96,9 @@ flags_change (Err fault) developer disable_dev = None
 flags_change (Ok space) developer disable_dev = space_change space (booted_firmware space developer disable_dev)
 
 -- flags and version
-abbrev pub version_change : Result (List ℕ) SpaceFault → Bool → Bool → Selection → ℕ → Option (List ℕ)
-version_change (Err fault) developer disable_dev selection version = None
-version_change (Ok space) developer disable_dev selection version =
-    space_change space (raised_firmware space developer disable_dev selection version)
+abbrev pub version_change : Result (List ℕ) SpaceFault → Bool → (nv : List ℕ) → Selection → ℕ → Option (List ℕ)
+version_change (Err fault) developer nv selection version = None
+version_change (Ok space) developer nv selection version = space_change space (raised_firmware space developer nv selection version)
 
 -- developer mode
 abbrev pub enabling_change : Result (List ℕ) SpaceFault → Option (List ℕ)
@@ -102,29 +111,33 @@ firmware_stored (Ok space) = Some (firmware_versions space)
 firmware_stored (Err fault) = None
 
 -- and after a good slot
-abbrev pub firmware_stored_after : Result (List ℕ) SpaceFault → Selection → ℕ → Option ℕ
-firmware_stored_after (Ok space) selection version = Some (new_firmware_version selection (firmware_versions space) version)
-firmware_stored_after (Err fault) selection version = None
+abbrev pub firmware_stored_after : Result (List ℕ) SpaceFault → (nv : List ℕ) → Selection → ℕ → Option ℕ
+firmware_stored_after (Ok space) nv selection version = Some (new_firmware_version nv selection (firmware_versions space) version)
+firmware_stored_after (Err fault) nv selection version = None
 
 -- ---- the kernel space
 
--- The stored version of the kernel after one was chosen: the lowest one that the walk found to store, where it is over the stored
+-- The rise of the kernel's version after one was chosen: the lowest one that the walk found to store, where it is over the stored
 -- one and the slot is not on trial.
-abbrev pub new_kernel_version : (on_trial : Bool) → (stored lowest : ℕ) → ℕ
-new_kernel_version on_trial stored lowest = if nat_lt stored lowest && not on_trial then lowest else stored
+abbrev pub kernel_rise : (on_trial : Bool) → (stored lowest : ℕ) → ℕ
+kernel_rise on_trial stored lowest = if nat_lt stored lowest && not on_trial then lowest else stored
 
-abbrev pub kernel_change : Result (List ℕ) SpaceFault → (on_trial : Bool) → (lowest : ℕ) → Option (List ℕ)
-kernel_change (Err fault) on_trial lowest = None
-kernel_change (Ok space) on_trial lowest =
-    space_change space (with_kernel_versions space (new_kernel_version on_trial (kernel_versions space) lowest))
+-- the stored version of the kernel then, by the ceiling of the record
+abbrev pub new_kernel_version : (nv : List ℕ) → (on_trial : Bool) → (stored lowest : ℕ) → ℕ
+new_kernel_version nv on_trial stored lowest = capped stored (kernel_rise on_trial stored lowest) (ceiling_of nv ceiling.Kernel)
+
+abbrev pub kernel_change : Result (List ℕ) SpaceFault → (nv : List ℕ) → (on_trial : Bool) → (lowest : ℕ) → Option (List ℕ)
+kernel_change (Err fault) nv on_trial lowest = None
+kernel_change (Ok space) nv on_trial lowest =
+    space_change space (with_kernel_versions space (new_kernel_version nv on_trial (kernel_versions space) lowest))
 
 abbrev pub kernel_stored : Result (List ℕ) SpaceFault → Option ℕ
 kernel_stored (Ok space) = Some (kernel_versions space)
 kernel_stored (Err fault) = None
 
-abbrev pub kernel_stored_after : Result (List ℕ) SpaceFault → (on_trial : Bool) → (lowest : ℕ) → Option ℕ
-kernel_stored_after (Ok space) on_trial lowest = Some (new_kernel_version on_trial (kernel_versions space) lowest)
-kernel_stored_after (Err fault) on_trial lowest = None
+abbrev pub kernel_stored_after : Result (List ℕ) SpaceFault → (nv : List ℕ) → (on_trial : Bool) → (lowest : ℕ) → Option ℕ
+kernel_stored_after (Ok space) nv on_trial lowest = Some (new_kernel_version nv on_trial (kernel_versions space) lowest)
+kernel_stored_after (Err fault) nv on_trial lowest = None
 
 -- ---- versions that do not fall
 

@@ -39,7 +39,7 @@ use Rattle.boot_core.specs.Spaces.{RaisesVersion, RaisesKernel}
 use Rattle.boot_core.specs.Facts.{found_in, found_of}
 use Rattle.boot_core.specs.Slots.{slot_asked, slot_answer, HoldsFirmware}
 use Rattle.boot_core.specs.Drives.{drive_asked, seen_on, Look, asked_at, table_after_look}
-use Rattle.boot_core.specs.Plan.{selected_answer, slot_plan_of, look_by, manual_plan_of, look_in, plan_of, look_of, first_changes, later_changes, changes_of}
+use Rattle.boot_core.specs.Plan.{selected_answer, slot_plan_of, look_by, manual_plan_of, look_in, plan_of, look_of, IsOfOneForm, first_changes, later_changes, changes_of}
 use Rattle.boot_core.specs.Hands.{handed_by, HoldsOutcome}
 use Rattle.boot_core.specs.Carries.{SameDisk, Targets, CarriesOut}
 
@@ -178,6 +178,8 @@ pub record Plans (sw : Switches) (found : Found) (look : Option Look) (planned :
   -- the spaces that are written are good, and their versions are no lower
   pub firmware : IfOk result (λ plan. IfSome plan.firmware (RaisesVersion found.firmware))
   pub kernel : IfOk result (λ plan. IfSome plan.kernel (RaisesKernel found.kernel))
+  -- the second record has the form of the first, so that it goes into the same page
+  pub alike : IfOk result IsOfOneForm
   -- a table that is written is that of the room: the one after the walk
   pub ready : IfOk result (λ plan. plan.table ≡ true → CanCommit new.disk room.gpt)
   pub table : IsTold old → IfOk result (λ plan. plan.table ≡ true → room.gpt.table ≡ table_after_look look old)
@@ -220,13 +222,18 @@ pub record MakesFirst {T : Type 0} (to : Targets) (state : NvState) (plan : Plan
   pub kept : IsTrue old.flash.medium.told → KeepsWritten to.area state old.flash.medium.bytes new.flash.medium.bytes
   pub drives : SameDrives old new
 
+-- a record, where one is stored, goes into one page alone
+abbrev pub StoresIn : ℕ → NvState → Option (List ℕ) → List ℕ → List ℕ → Type 0
+StoresIn area state None old new = new ≡ old
+StoresIn area state (Some r) old new = SameBut (area + 4096 * page_to_write state r) 4096 old new
+
 -- The later changes of a plan, after so many: the table, the kernel space and a last record.
 pub record MakesLater {T : Type 0} (done : ℕ) (to : Targets) (state : NvState) (plan : Plan) (old new : World)
     (result : Result T Fault) : Type 0 where
   pub carried : CarriesOut done to state (later_changes plan) old new result
   pub kept : IsTrue old.flash.medium.told → KeepsWritten to.area state old.flash.medium.bytes new.flash.medium.bytes
   -- a record is stored in one page alone
-  pub page : IsTrue old.flash.medium.told → SameBut (to.area + 4096 * page_to_write state) 4096 old.flash.medium.bytes new.flash.medium.bytes
+  pub page : IsTrue old.flash.medium.told → StoresIn to.area state plan.last old.flash.medium.bytes new.flash.medium.bytes
   pub drives : WritesTable plan.table to.table old new result
 
 -- The changes of a plan, in their order, where this is the table that is written.

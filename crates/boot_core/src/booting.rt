@@ -7,6 +7,7 @@ ghost use Rattle.gpt_core.specs.Room.{CanCommit};
 ghost use Rattle.nvstore_core.specs.Pages.{IsStateOf, InRange};
 ghost use Rattle.boot_core.specs.Carries.{IsSettled};
 ghost use Rattle.boot_core.specs.Hands.{handed_by};
+ghost use Rattle.boot_core.specs.Plan.{IsOfOneForm};
 ghost use Rattle.boot_core.specs.Steps.{IsAreaIn, Finishes};
 ghost use Rattle.boot_core.specs.Boots.{Boots};
 
@@ -63,6 +64,7 @@ fn carry_out<F: Flash, T: Tpm, D: Disk, E: Disk, H: Hook>(
         (world F.state T.state H.state p.old).flash.medium.bytes found.now.state }
     requires within { InRange found.now.state }
     requires ready { plan.now.table ≡ true → CanCommit (world F.state T.state H.state p.old).disk gpt.old }
+    requires alike { IsOfOneForm plan.now }
     ensures { (table : PartitionTable) → (plan.now.table ≡ true → table ≡ gpt.old.table)
         → Finishes table found.now plan.now (world F.state T.state H.state p.old) (world F.state T.state H.state p.new) result }
 {

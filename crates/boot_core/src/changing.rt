@@ -4,14 +4,14 @@ ghost use Rattle.board_core.specs.declared.device.Space.TheVariants as space;
 ghost use Rattle.board_core.specs.Tpm.{is_locked, unlocked};
 ghost use Rattle.board_core.specs.World.{world};
 ghost use Rattle.nvstore_core.specs.declared.state.NvState.{NvState};
-ghost use Rattle.nvstore_core.specs.Pages.{IsStateOf, InRange, page_to_write};
-ghost use Rattle.nvstore_core.specs.Saving.{SameBut, KeepsWritten};
+ghost use Rattle.nvstore_core.specs.Pages.{IsStateOf, InRange};
+ghost use Rattle.nvstore_core.specs.Saving.{KeepsWritten};
 ghost use Rattle.gpt_core.specs.Format.{PartitionTable};
 ghost use Rattle.gpt_core.specs.Room.{CanCommit};
 ghost use Rattle.boot_core.specs.Changes.{Firmware, Record, Kernel, listed, tabled, state_with};
-ghost use Rattle.boot_core.specs.Plan.{first_changes, later_changes, changes_of};
+ghost use Rattle.boot_core.specs.Plan.{IsOfOneForm, first_changes, later_changes, changes_of};
 ghost use Rattle.boot_core.specs.Carries.{Targets, IsSettled, CarriesOut};
-ghost use Rattle.boot_core.specs.Steps.{SameDrives, IsAreaIn, to_of, WritesTable, MakesFirst, MakesLater, Makes};
+ghost use Rattle.boot_core.specs.Steps.{SameDrives, IsAreaIn, to_of, WritesTable, StoresIn, MakesFirst, MakesLater, Makes};
 
 use crate::found::Found;
 use crate::plan::Plan;
@@ -66,7 +66,7 @@ fn store_record<F: Flash, T: Tpm, D: Disk, E: Disk, H: Hook>(
         (world F.state T.state H.state p.old).flash.medium.bytes (world F.state T.state H.state p.new).flash.medium.bytes }
     ensures count { IfOk result (λ count. count ≡ done + length (listed Record change.now)) }
     ensures state { OnOk result (state.new ≡ fold state_with state.old (listed Record change.now)) }
-    ensures page { IsTrue (world F.state T.state H.state p.old).flash.medium.told → SameBut (area + 4096 * page_to_write state.old) 4096
+    ensures page { IsTrue (world F.state T.state H.state p.old).flash.medium.told → StoresIn area state.old change.now
         (world F.state T.state H.state p.old).flash.medium.bytes (world F.state T.state H.state p.new).flash.medium.bytes }
     ensures stands { IsTrue (world F.state T.state H.state p.old).flash.medium.told → OnOk result (IsStateOf area
         (world F.state T.state H.state p.new).flash.medium.bytes state.new) }
@@ -215,6 +215,7 @@ pub fn make_changes<F: Flash, T: Tpm, D: Disk, E: Disk, H: Hook>(
         (world F.state T.state H.state p.old).flash.medium.bytes found.now.state }
     requires within { InRange found.now.state }
     requires ready { plan.now.table ≡ true → CanCommit (world F.state T.state H.state p.old).disk gpt.old }
+    requires alike { IsOfOneForm plan.now }
     ensures makes { (table : PartitionTable) → (plan.now.table ≡ true → table ≡ gpt.old.table)
         → Makes table found.now plan.now (world F.state T.state H.state p.old) (world F.state T.state H.state p.new) result }
     ensures count { IfOk result (λ count. count ≡ length (changes_of plan.now)) }

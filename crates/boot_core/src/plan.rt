@@ -10,16 +10,16 @@ ghost use Rattle.walk_core.specs.Seen as seen_spec;
 use crate::found::Found;
 use crate::outcome::{Hand, Outcome};
 use crate::spaces::{
-    booted, enabled, enabling_change, firmware_stored, firmware_stored_after, flags_change,
-    is_trying, kernel_change, kernel_stored, kernel_stored_after, record_change, screened,
-    second_change, version_change,
+    booted, disables_dev, enabled, enabling_change, firmware_stored, firmware_stored_after,
+    flags_change, is_trying, kernel_change, kernel_stored, kernel_stored_after, record_change,
+    screened, second_change, version_change,
 };
 use crate::switches::Switches;
 use board_core::Drive;
 use chain_core::{SlotFault, SlotOk};
 use fwsel_core::{ModeFacts, Selection, fail};
 use kernel_core::BootMode;
-use record_core::{FwSpace, KernelSpace, Nv, NvField, SpaceFault};
+use record_core::{FwSpace, KernelSpace, Nv, SpaceFault};
 use rom_core::{Gbb, GbbFault};
 use walk_core::{Kernel, Seen};
 
@@ -129,7 +129,7 @@ pub fn reboot_plan(found: &Found, developer: bool, selection: Selection, fault: 
     ensures plan { result ≡ spec.reboot_plan_of found.now developer fault.now }
     ensures version { IfSome result.firmware (RaisesVersion found.now.firmware) }
 {
-    let disable_dev = found.state.nv.get(NvField::DisableDev) != 0;
+    let disable_dev = disables_dev(&found.state.nv);
     let reason = fault.reason();
     let subcode = fault.subcode();
     let mut next = booted(&found.state.nv);
@@ -176,13 +176,12 @@ fn good_plan(
     ensures plan { result ≡ spec.good_plan_of found.now developer ok.now outcome table kernel last }
     ensures version { IfSome result.firmware (RaisesVersion found.now.firmware) }
 {
-    let disable_dev = found.state.nv.get(NvField::DisableDev) != 0;
     Plan {
         outcome,
         firmware: version_change(
             &found.firmware,
             developer,
-            disable_dev,
+            &found.state.nv,
             selection,
             ok.version,
         ),
@@ -216,7 +215,7 @@ fn hand_of(
         kernel_version: kernel.version,
         kernel_len: kernel.body_len,
         load_address: kernel.load_address,
-        stored_fw: firmware_stored_after(&found.firmware, selection, ok.version),
+        stored_fw: firmware_stored_after(&found.firmware, &found.state.nv, selection, ok.version),
         stored_kernel,
     }
 }
@@ -329,9 +328,9 @@ fn disk_plan(
         return failed_plan(found, developer, selection, ok, REASON_NO_KERNEL, changed);
     };
     let on_trial = is_trying(&booted(&found.state.nv));
-    let stored = kernel_stored_after(&found.kernel, on_trial, lowest);
+    let stored = kernel_stored_after(&found.kernel, &found.state.nv, on_trial, lowest);
     let hand = hand_of(found, developer, selection, ok, Drive::Disk, kernel, stored);
-    let space = kernel_change(&found.kernel, on_trial, lowest);
+    let space = kernel_change(&found.kernel, &found.state.nv, on_trial, lowest);
     good_plan(
         found,
         developer,

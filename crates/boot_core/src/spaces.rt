@@ -7,7 +7,7 @@ ghost use Rattle.boot_core.specs.Spaces.{RaisesVersion, RaisesKernel};
 
 use fwsel_core::{Selection, boot_flags, select};
 use nvstore_core::NvState;
-use record_core::{FwSpace, KernelSpace, Nv, NvField, SpaceFault};
+use record_core::{Ceiling, FwSpace, KernelSpace, Nv, NvField, SpaceFault};
 
 const SUCCESS: u8 = 2;
 
@@ -46,6 +46,13 @@ pub fn enabled(nv: &Nv) -> Nv
     next
 }
 
+/// Whether the record says that developer mode is to be switched off.
+pub fn disables_dev(nv: &Nv) -> bool
+    ensures { result ≡ spec.disables_dev nv.now }
+{
+    nv.get(NvField::DisableDev) != 0
+}
+
 /// Whether the record says that the slot is on trial.
 pub fn is_trying(nv: &Nv) -> bool
     ensures { result ≡ spec.is_trying nv.now }
@@ -64,7 +71,7 @@ pub fn record_change(state: &NvState, nv: &Nv) -> Option<Nv>
 pub fn second_change(first: &Nv, second: &Nv) -> Option<Nv>
     ensures { result ≡ spec.second_change first.now second.now }
 {
-    if second.bytes() == first.bytes() {
+    if second.as_slice() == first.as_slice() {
         None
     } else {
         Some(*second)
@@ -88,22 +95,23 @@ pub fn flags_change(
     space_change(old, with_flags(old, developer, disable_dev))
 }
 
-/// The firmware space with flags and version after a good slot, where it differs.
+/// The firmware space with flags and version after a good slot, where it differs. The version rises to the ceiling of the record at
+/// most.
 pub fn version_change(
     space: &Result<FwSpace, SpaceFault>,
     developer: bool,
-    disable_dev: bool,
+    nv: &Nv,
     selection: Selection,
     version: u32,
 ) -> Option<FwSpace>
-    ensures change { result ≡ spec.version_change space.now developer disable_dev selection version }
+    ensures change { result ≡ spec.version_change space.now developer nv.now selection version }
     ensures version { IfSome result (RaisesVersion space.now) }
 {
     let Ok(old) = space else {
         return None;
     };
-    let mut new = with_flags(old, developer, disable_dev);
-    new.set_versions(new_version(selection, old.versions(), version));
+    let mut new = with_flags(old, developer, disables_dev(nv));
+    new.set_versions(new_firmware_version(nv, selection, old.versions(), version));
     space_change(old, new)
 }
 
@@ -133,13 +141,14 @@ pub fn firmware_stored(space: &Result<FwSpace, SpaceFault>) -> Option<u32>
 /// The one that is stored after a good slot of this version.
 pub fn firmware_stored_after(
     space: &Result<FwSpace, SpaceFault>,
+    nv: &Nv,
     selection: Selection,
     version: u32,
 ) -> Option<u32>
-    ensures { result ≡ spec.firmware_stored_after space.now selection version }
+    ensures { result ≡ spec.firmware_stored_after space.now nv.now selection version }
 {
     match space {
-        Ok(space) => Some(new_version(selection, space.versions(), version)),
+        Ok(space) => Some(new_firmware_version(nv, selection, space.versions(), version)),
         Err(_) => None,
     }
 }
@@ -154,16 +163,25 @@ fn with_flags(old: &FwSpace, developer: bool, disable_dev: bool) -> FwSpace
     new
 }
 
-// The stored version after a good slot of this version.
-fn new_version(selection: Selection, stored: u32, version: u32) -> u32
-    ensures is { result ≡ spec.new_firmware_version selection stored version }
+// The stored version after a good slot of this version, by the ceiling of the record.
+fn new_firmware_version(nv: &Nv, selection: Selection, stored: u32, version: u32) -> u32
+    ensures is { result ≡ spec.new_firmware_version nv.now selection stored version }
     ensures no_lower { stored ≤ result }
 {
-    if stored < version && has_succeeded(selection) {
+    let rise = if stored < version && has_succeeded(selection) {
         version
     } else {
         stored
-    }
+    };
+    capped(stored, rise, nv.ceiling(Ceiling::Firmware))
+}
+
+// The greater of the stored version and the lesser of its rise and a ceiling.
+fn capped(stored: u32, rise: u32, ceiling: u32) -> u32
+    ensures is { result ≡ spec.capped stored rise ceiling }
+    ensures no_lower { stored ≤ result }
+{
+    stored.max(rise.min(ceiling))
 }
 
 // Whether the boot before tried the same slot and came to its end.
@@ -187,20 +205,22 @@ fn space_change(old: &FwSpace, new: FwSpace) -> Option<FwSpace>
 
 // ---- the kernel space
 
-/// The kernel space with the version after a kernel was chosen, of which the walk found this lowest version to store.
+/// The kernel space with the version after a kernel was chosen, of which the walk found this lowest version to store. It rises to the
+/// ceiling of the record at most.
 pub fn kernel_change(
     space: &Result<KernelSpace, SpaceFault>,
-    trying: bool,
+    nv: &Nv,
+    on_trial: bool,
     lowest: u32,
 ) -> Option<KernelSpace>
-    ensures change { result ≡ spec.kernel_change space.now trying lowest }
+    ensures change { result ≡ spec.kernel_change space.now nv.now on_trial lowest }
     ensures version { IfSome result (RaisesKernel space.now) }
 {
     let Ok(old) = space else {
         return None;
     };
     let mut new = *old;
-    new.set_versions(new_kernel_version(trying, old.versions(), lowest));
+    new.set_versions(new_kernel_version(nv, on_trial, old.versions(), lowest));
     if new.as_slice() == old.as_slice() {
         None
     } else {
@@ -221,26 +241,28 @@ pub fn kernel_stored(space: &Result<KernelSpace, SpaceFault>) -> Option<u32>
 /// The one that is stored after a kernel was chosen.
 pub fn kernel_stored_after(
     space: &Result<KernelSpace, SpaceFault>,
-    trying: bool,
+    nv: &Nv,
+    on_trial: bool,
     lowest: u32,
 ) -> Option<u32>
-    ensures { result ≡ spec.kernel_stored_after space.now trying lowest }
+    ensures { result ≡ spec.kernel_stored_after space.now nv.now on_trial lowest }
 {
     match space {
-        Ok(space) => Some(new_kernel_version(trying, space.versions(), lowest)),
+        Ok(space) => Some(new_kernel_version(nv, on_trial, space.versions(), lowest)),
         Err(_) => None,
     }
 }
 
 // The stored version after a kernel was chosen: the lowest one to store, where it is over the stored one and the slot is not on
-// trial.
-fn new_kernel_version(trying: bool, stored: u32, lowest: u32) -> u32
-    ensures is { result ≡ spec.new_kernel_version trying stored lowest }
+// trial, by the ceiling of the record.
+fn new_kernel_version(nv: &Nv, on_trial: bool, stored: u32, lowest: u32) -> u32
+    ensures is { result ≡ spec.new_kernel_version nv.now on_trial stored lowest }
     ensures no_lower { stored ≤ result }
 {
-    if stored < lowest && !trying {
+    let rise = if stored < lowest && !on_trial {
         lowest
     } else {
         stored
-    }
+    };
+    capped(stored, rise, nv.ceiling(Ceiling::Kernel))
 }

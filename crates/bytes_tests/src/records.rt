@@ -12,13 +12,13 @@ fn with_byte(bytes: &[u8; 16], (at, byte, crc): (usize, u8, u8)) -> [u8; 16] {
     changed
 }
 
-// The bytes of the record with a field set, where the value fits.
-fn set_in(record: &Nv, field: NvField, value: u8) -> [u8; 16] {
+// The record with a field set, where the value fits.
+fn set_in(record: &Nv, field: NvField, value: u8) -> Nv {
     let mut changed = *record;
     if fits(field, value) {
         changed.set(field, value);
     }
-    changed.bytes()
+    changed
 }
 
 // Each row has a field, its value in the record, and another value; then the place of the byte that holds the field, and
@@ -47,8 +47,8 @@ fn fields_of_a_record(rt: HostRuntime) -> Result<(), Fail> {
     for (field, was, value, after) in rows {
         assert_eq!(rt; record.get(field), was, "{field:?}");
         assert_eq!(rt;
-            set_in(&record, field, value),
-            with_byte(&bytes, after),
+            set_in(&record, field, value).as_slice(),
+            with_byte(&bytes, after).as_slice(),
             "{field:?}"
         );
     }

@@ -4,12 +4,13 @@ ghost use Rattle.std.specs.Prelude.{◌≡◌, ◌+◌, ◌*◌, ◌%◌, ◌≤
 ghost use Rattle.board_mem.specs.declared.fails.Remains.TheVariants.{Old, New, Fill};
 ghost use Rattle.board_mem.specs.Fails.{next_failure};
 ghost use Rattle.board_mem.specs.MemFlash.{mem_flash_state, mem_flash_plan};
+ghost use Rattle.board_core.specs.Torn.{added};
 ghost use Rattle.nvstore_core.specs.Fair.{IsFairFlash};
 
 use board_core::{Failed, Flash, Fuse};
 use board_mem::MemFlash;
 use nvstore_core::{page_head, *};
-use record_core::{Nv, NvField};
+use record_core::{Nv, NvField, NvForm};
 use std::alloc::{AllocError, Global};
 use std::test::Fail;
 
@@ -17,12 +18,15 @@ const AREA: u32 = 4096;
 
 const NO_HEAD: [u8; 16] = [0xff; 16];
 
-// A blank record with this count of tries.
-fn record_of(tries: u8) -> Nv
+// A blank record of this form with this count of tries.
+fn record_of(form: NvForm, tries: u8) -> Nv
     requires { tries ≤ 15 }
 {
     let mut nv = Nv::blank();
     nv.set(NvField::TryCount, tries);
+    if form == NvForm::V2 {
+        nv.up();
+    }
     nv
 }
 
@@ -33,12 +37,21 @@ fn put_page(
     used: usize,
     nv: &Nv,
 ) -> Result<(), AllocError> {
+    let (cells, pieces) = match nv.form() {
+        NvForm::V1 => (255, 1),
+        NvForm::V2 => (63, 4),
+    };
     content.extend_from_slice(head)?;
-    for cell in 0..255 {
+    for _ in 1..pieces {
+        content.extend_from_slice(&NO_HEAD)?;
+    }
+    for cell in 0..cells {
         if cell < used {
-            content.extend_from_slice(&nv.bytes())?;
+            content.extend_from_slice(nv.as_slice())?;
         } else {
-            content.extend_from_slice(&NO_HEAD)?;
+            for _ in 0..pieces {
+                content.extend_from_slice(&NO_HEAD)?;
+            }
         }
     }
     Ok(())
@@ -47,59 +60,86 @@ fn put_page(
 // A flash whose two pages lie behind an erased one. Page 0 holds the record of 1 try, and page 1 that of 2.
 fn flash_of(
     alloc: Global,
+    form: NvForm,
     first: (&[u8; 16], usize),
     second: (&[u8; 16], usize),
 ) -> Result<Vec<u8>, AllocError> {
     let mut content = Vec::new(alloc);
     put_page(&mut content, &NO_HEAD, 0, &Nv::blank())?;
-    put_page(&mut content, first.0, first.1, &record_of(1))?;
-    put_page(&mut content, second.0, second.1, &record_of(2))?;
+    put_page(&mut content, first.0, first.1, &record_of(form, 1))?;
+    put_page(&mut content, second.0, second.1, &record_of(form, 2))?;
     Ok(content)
 }
 
-// The premise on remains is met by a flash in memory: a program of a cell or a head that fails leaves fair remains, where
+// The premise on remains is met by a flash in memory: a program of whole cells of either form that fails leaves fair remains, where
 // the list names the old bytes, the new ones or zeros.
-fn program_fairly(flash: &mut MemFlash, at: u32, bytes: &[u8; 16]) -> Result<(), Failed>
-    requires area { 4096 ≤ at }
-    requires piece { at % 16 ≡ 0 }
-    requires inside { at + 16 ≤ (mem_flash_state flash.old).medium.size }
+fn program_fairly(flash: &mut MemFlash, at: u32, bytes: &[u8; 64]) -> Result<(), Failed>
+    requires piece { at % 64 ≡ 0 }
+    requires inside { at + 64 ≤ (mem_flash_state flash.old).medium.size }
     ensures old { next_failure (mem_flash_plan flash.old) ≡ Some Old
-        → IsFairFlash 4096 (mem_flash_state flash.old).medium (mem_flash_state flash.new).medium }
+        → IsFairFlash 4096 (mem_flash_state flash.old).medium.bytes
+        (added (mem_flash_state flash.old).medium.torn (mem_flash_state flash.new).medium.torn) }
     ensures new { next_failure (mem_flash_plan flash.old) ≡ Some New
-        → IsFairFlash 4096 (mem_flash_state flash.old).medium (mem_flash_state flash.new).medium }
+        → IsFairFlash 4096 (mem_flash_state flash.old).medium.bytes
+        (added (mem_flash_state flash.old).medium.torn (mem_flash_state flash.new).medium.torn) }
     ensures zeros { next_failure (mem_flash_plan flash.old) ≡ Some (Fill 0)
-        → IsFairFlash 4096 (mem_flash_state flash.old).medium (mem_flash_state flash.new).medium }
+        → IsFairFlash 4096 (mem_flash_state flash.old).medium.bytes
+        (added (mem_flash_state flash.old).medium.torn (mem_flash_state flash.new).medium.torn) }
 {
     flash.program(at, bytes)
 }
 
 // And so does an erase of a page that fails.
 fn erase_fairly(flash: &mut MemFlash, page: u32) -> Result<(), Failed>
-    requires area { 1 ≤ page }
     requires inside { page * 4096 + 4096 ≤ (mem_flash_state flash.old).medium.size }
     ensures old { next_failure (mem_flash_plan flash.old) ≡ Some Old
-        → IsFairFlash 4096 (mem_flash_state flash.old).medium (mem_flash_state flash.new).medium }
+        → IsFairFlash 4096 (mem_flash_state flash.old).medium.bytes
+        (added (mem_flash_state flash.old).medium.torn (mem_flash_state flash.new).medium.torn) }
     ensures new { next_failure (mem_flash_plan flash.old) ≡ Some New
-        → IsFairFlash 4096 (mem_flash_state flash.old).medium (mem_flash_state flash.new).medium }
+        → IsFairFlash 4096 (mem_flash_state flash.old).medium.bytes
+        (added (mem_flash_state flash.old).medium.torn (mem_flash_state flash.new).medium.torn) }
     ensures zeros { next_failure (mem_flash_plan flash.old) ≡ Some (Fill 0)
-        → IsFairFlash 4096 (mem_flash_state flash.old).medium (mem_flash_state flash.new).medium }
+        → IsFairFlash 4096 (mem_flash_state flash.old).medium.bytes
+        (added (mem_flash_state flash.old).medium.torn (mem_flash_state flash.new).medium.torn) }
 {
     flash.erase(page)
 }
 
+// Each row has the form of the full page, the form of the record that is saved, the stop, how many bytes of the chosen call
+// happen, and the tries of the record that stands then.
 #[test]
 fn a_switch_is_stopped_at_each_call(rt: HostRuntime) -> Result<(), Fail> {
     let alloc = rt.alloc();
-    let content = flash_of(alloc, (&page_head(0), 255), (&NO_HEAD, 0))?;
-    assert_eq!(rt; content.len(), 12288);
-    // The stop, how many bytes of the chosen call happen, and the tries of the record that stands then.
-    for (call, keep, tries) in [(1, 0, 1), (1, 4096, 1), (2, 8, 1), (3, 15, 1), (3, 16, 3)] {
+    let (v1, v2) = (NvForm::V1, NvForm::V2);
+    let rows = [
+        (v1, v1, 1, 0, 1),
+        (v1, v1, 1, 4096, 1),
+        (v1, v1, 2, 8, 1),
+        (v1, v1, 3, 15, 1),
+        (v1, v1, 3, 16, 3),
+        (v1, v2, 1, 4096, 1),
+        (v1, v2, 2, 48, 1),
+        (v1, v2, 3, 15, 1),
+        (v1, v2, 3, 16, 3),
+        (v2, v1, 2, 16, 1),
+        (v2, v1, 3, 16, 3),
+        (v2, v2, 2, 64, 1),
+        (v2, v2, 3, 16, 3),
+    ];
+    for (from, to, call, keep, tries) in rows {
+        let full = match from {
+            NvForm::V1 => 255,
+            NvForm::V2 => 63,
+        };
+        let content = flash_of(alloc, from, (&page_head(from, 0), full), (&NO_HEAD, 0))?;
+        assert_eq!(rt; content.len(), 12288);
         let mut fuse = Fuse::new(alloc, MemFlash::new(alloc, &content, &[])?);
         fuse.arm(call, keep)?;
         assert_eq!(rt; fuse.size(), 12288);
         let mut state = load(&mut fuse, AREA)?;
+        assert_eq!(rt; state.nv.get(NvField::TryCount), 1);
         assert_eq!(rt;
-            save(&mut fuse, AREA, &mut state, &record_of(3)),
+            save(&mut fuse, AREA, &mut state, &record_of(to, 3)),
             Err(Failed)
         );
         fuse.revive();
@@ -107,9 +147,7 @@ fn a_switch_is_stopped_at_each_call(rt: HostRuntime) -> Result<(), Fail> {
         let found = load(&mut fuse, AREA)?;
         assert!(rt; found.stands);
         assert_eq!(rt; found.nv.get(NvField::TryCount), tries);
-        let mut head = NO_HEAD;
-        fuse.read(AREA + 4096, &mut head)?;
-        assert_eq!(rt; head[15] == 0x68, tries == 3);
+        assert_eq!(rt; found.form, if tries == 3 { to } else { from });
     }
     Ok(())
 }
@@ -117,14 +155,14 @@ fn a_switch_is_stopped_at_each_call(rt: HostRuntime) -> Result<(), Fail> {
 #[test]
 fn saves_follow_one_another(rt: HostRuntime) -> Result<(), Fail> {
     let alloc = rt.alloc();
-    let content = flash_of(alloc, (&NO_HEAD, 0), (&NO_HEAD, 0))?;
+    let content = flash_of(alloc, NvForm::V1, (&NO_HEAD, 0), (&NO_HEAD, 0))?;
     assert_eq!(rt; content.len(), 12288);
     let mut flash = MemFlash::new(alloc, &content, &[])?;
     assert_eq!(rt; flash.size(), 12288);
     let mut state = load(&mut flash, AREA)?;
     assert!(rt; !state.stands && state.nv == Nv::blank());
     for count in 0..800u16 {
-        let nv = record_of((count % 16) as u8);
+        let nv = record_of(NvForm::V1, (count % 16) as u8);
         save(&mut flash, AREA, &mut state, &nv)?;
         assert!(rt; load(&mut flash, AREA)?.holds(&nv));
     }

@@ -4,51 +4,52 @@ use Rattle.std.specs.Prelude.{is_some, IfSome}
 use Rattle.std.specs.List.{find, prefix_len, suffix_len}
 use Rattle.std.proofs.lemmas.Bool.{cond-true, cond-false, false≢true}
 use Rattle.std.proofs.lemmas.List.{reverse-append}
+use Rattle.record_core.specs.declared.nv.NvForm.{NvForm}
 use Rattle.record_core.specs.Nv.{is_good_record}
 use Rattle.nvstore_core.specs.Pages.{cell_of, cells_below, is_erased, last_good, tail_start}
 
-reversed_more : (page : List ℕ) (count : ℕ) → reverse (cells_below page (suc count)) ≡ cell_of page count ∷ reverse (cells_below page count)
+reversed_more : (form : NvForm) (page : List ℕ) (count : ℕ) → reverse (cells_below form page (suc count)) ≡ cell_of form page count ∷ reverse (cells_below form page count)
 unfolding cells_below
-reversed_more page count = reverse-append (cells_below page count) (cell_of page count ∷ [])
+reversed_more form page count = reverse-append (cells_below form page count) (cell_of form page count ∷ [])
 
-pub last_good-none : (page : List ℕ) → last_good page 0 ≡ None
+pub last_good-none : (form : NvForm) (page : List ℕ) → last_good form page 0 ≡ None
 unfolding cells_below
-last_good-none page = refl
+last_good-none form page = refl
 
-pub last_good-yes : (page : List ℕ) (count : ℕ) → is_good_record (cell_of page count) ≡ true → last_good page (suc count) ≡ Some (cell_of page count)
-last_good-yes page count good = ap (find is_good_record) (reversed_more page count) ∙ cond-true _ _ _ good
+pub last_good-yes : (form : NvForm) (page : List ℕ) (count : ℕ) → is_good_record (cell_of form page count) ≡ true → last_good form page (suc count) ≡ Some (cell_of form page count)
+last_good-yes form page count good = ap (find is_good_record) (reversed_more form page count) ∙ cond-true _ _ _ good
 
-pub last_good-no : (page : List ℕ) (count : ℕ) → is_good_record (cell_of page count) ≡ false → last_good page (suc count) ≡ last_good page count
-last_good-no page count bad = ap (find is_good_record) (reversed_more page count) ∙ cond-false _ _ _ bad
+pub last_good-no : (form : NvForm) (page : List ℕ) (count : ℕ) → is_good_record (cell_of form page count) ≡ false → last_good form page (suc count) ≡ last_good form page count
+last_good-no form page count bad = ap (find is_good_record) (reversed_more form page count) ∙ cond-false _ _ _ bad
 
-pub tail_start-none : (page : List ℕ) → tail_start page 0 ≡ 0
+pub tail_start-none : (form : NvForm) (page : List ℕ) → tail_start form page 0 ≡ 0
 unfolding cells_below
-tail_start-none page = refl
+tail_start-none form page = refl
 
-pub tail_start-yes : (page : List ℕ) (count : ℕ) → is_erased (cell_of page count) ≡ true → tail_start page (suc count) ≡ tail_start page count
-tail_start-yes page count erased =
-    let one : suffix_len is_erased (cells_below page (suc count)) ≡ 1 + suffix_len is_erased (cells_below page count) =
-    ap (prefix_len is_erased) (reversed_more page count) ∙ cond-true _ _ _ erased in
+pub tail_start-yes : (form : NvForm) (page : List ℕ) (count : ℕ) → is_erased (cell_of form page count) ≡ true → tail_start form page (suc count) ≡ tail_start form page count
+tail_start-yes form page count erased =
+    let one : suffix_len is_erased (cells_below form page (suc count)) ≡ 1 + suffix_len is_erased (cells_below form page count) =
+    ap (prefix_len is_erased) (reversed_more form page count) ∙ cond-true _ _ _ erased in
     omega (arith, one)
 
-pub tail_start-no : (page : List ℕ) (count : ℕ) → is_erased (cell_of page count) ≡ false → tail_start page (suc count) ≡ suc count
-tail_start-no page count used =
-    let one : suffix_len is_erased (cells_below page (suc count)) ≡ 0 = ap (prefix_len is_erased) (reversed_more page count) ∙ cond-false _ _ _ used in
+pub tail_start-no : (form : NvForm) (page : List ℕ) (count : ℕ) → is_erased (cell_of form page count) ≡ false → tail_start form page (suc count) ≡ suc count
+tail_start-no form page count used =
+    let one : suffix_len is_erased (cells_below form page (suc count)) ≡ 0 = ap (prefix_len is_erased) (reversed_more form page count) ∙ cond-false _ _ _ used in
     omega (arith, one)
 
 -- ---- the steps of a walk from the last cell down
 
-pub last_good-found : (page : List ℕ) (count cell : ℕ) → count ≡ suc cell → is_good_record (cell_of page cell) ≡ true → last_good page count ≡ Some (cell_of page cell)
-last_good-found page count cell last good = ap (last_good page) last ∙ last_good-yes page cell good
+pub last_good-found : (form : NvForm) (page : List ℕ) (count cell : ℕ) → count ≡ suc cell → is_good_record (cell_of form page cell) ≡ true → last_good form page count ≡ Some (cell_of form page cell)
+last_good-found form page count cell last good = ap (last_good form page) last ∙ last_good-yes form page cell good
 
-pub last_good-passed : (page : List ℕ) (count cell : ℕ) → count ≡ suc cell → is_good_record (cell_of page cell) ≡ false → last_good page cell ≡ last_good page count
-last_good-passed page count cell last bad = sym (ap (last_good page) last ∙ last_good-no page cell bad)
+pub last_good-passed : (form : NvForm) (page : List ℕ) (count cell : ℕ) → count ≡ suc cell → is_good_record (cell_of form page cell) ≡ false → last_good form page cell ≡ last_good form page count
+last_good-passed form page count cell last bad = sym (ap (last_good form page) last ∙ last_good-no form page cell bad)
 
-pub tail_start-passed : (page : List ℕ) (count cell : ℕ) → count ≡ suc cell → is_erased (cell_of page cell) ≡ true → tail_start page cell ≡ tail_start page count
-tail_start-passed page count cell last erased = sym (ap (tail_start page) last ∙ tail_start-yes page cell erased)
+pub tail_start-passed : (form : NvForm) (page : List ℕ) (count cell : ℕ) → count ≡ suc cell → is_erased (cell_of form page cell) ≡ true → tail_start form page cell ≡ tail_start form page count
+tail_start-passed form page count cell last erased = sym (ap (tail_start form page) last ∙ tail_start-yes form page cell erased)
 
-pub tail_start-found : (page : List ℕ) (count cell : ℕ) → count ≡ suc cell → is_erased (cell_of page cell) ≡ false → tail_start page count ≡ count
-tail_start-found page count cell last used = ap (tail_start page) last ∙ tail_start-no page cell used ∙ sym last
+pub tail_start-found : (form : NvForm) (page : List ℕ) (count cell : ℕ) → count ≡ suc cell → is_erased (cell_of form page cell) ≡ false → tail_start form page count ≡ count
+tail_start-found form page count cell last used = ap (tail_start form page) last ∙ tail_start-no form page cell used ∙ sym last
 
 -- the value that there is
 pub some_same : (found : Option (List ℕ)) (r : List ℕ) → is_some found ≡ true → IfSome found (λ x. x ≡ r) → found ≡ Some r

@@ -5,7 +5,10 @@ use Rattle.record_core.specs.Nv.{blank_record}
 use Rattle.std.proofs.lemmas.Bool.{cond-true, cases_lt, eq-eqb}
 use Rattle.nvstore_core.specs.declared.state.NvState.{NvState}
 use Rattle.board_core.specs.Flash.{range}
-use Rattle.nvstore_core.specs.Pages.{cell_of, current_page, of_current, page_in, generation_in, current_in, page_record, page_state, empty_state, record_in, state_in}
+use Rattle.record_core.specs.declared.nv.NvForm.{NvForm}
+use Rattle.record_core.specs.declared.nv.NvForm.TheVariants.{V1, V2}
+use Rattle.record_core.specs.Nv.{record_size}
+use Rattle.nvstore_core.specs.Pages.{cells_in, cell_place, cell_of, current_page, of_current, page_in, generation_in, current_in, own_record, page_state, empty_state, record_in, state_in}
 use Rattle.nvstore_core.specs.Saving.{SameBut}
 use Rattle.nvstore_core.proofs.Frames.{range-range, range_before, range_behind}
 use Rattle.nvstore_core.proofs.Answering.{same_state}
@@ -94,20 +97,21 @@ state_pages area bytes =
     let q = page_in area 1 bytes in
     same_state (of_current page empty_state (page_state 0 p) (page_state 1 q)) (state_in area bytes)
     (page_of_current (generation_in area 0 bytes) (generation_in area 1 bytes) p q)
+    (part_of_current (λ (s : NvState). s.form) page (page_state 0 p) (page_state 1 q))
     (part_of_current (λ (s : NvState). s.generation) page (page_state 0 p) (page_state 1 q))
     (part_of_current (λ (s : NvState). s.next) page (page_state 0 p) (page_state 1 q))
-    (part_of_current (λ (s : NvState). s.nv) page (page_state 0 p) (page_state 1 q) ∙ sym (nv_of_current page (page_record p) (page_record q)))
-    (part_of_current (λ (s : NvState). s.stands) page (page_state 0 p) (page_state 1 q) ∙ sym (stands_of_current page (page_record p) (page_record q)))
+    (part_of_current (λ (s : NvState). s.nv) page (page_state 0 p) (page_state 1 q) ∙ sym (nv_of_current page (own_record p) (own_record q)))
+    (part_of_current (λ (s : NvState). s.stands) page (page_state 0 p) (page_state 1 q) ∙ sym (stands_of_current page (own_record p) (own_record q)))
 
-pub record_current : (area page : ℕ) (bytes : List ℕ) → page ≤ 1 → current_in area bytes ≡ Some page → record_in area bytes ≡ page_record (page_in area page bytes)
+pub record_current : (area page : ℕ) (bytes : List ℕ) → page ≤ 1 → current_in area bytes ≡ Some page → record_in area bytes ≡ own_record (page_in area page bytes)
 unfolding record_in
-record_current area zero bytes within is = ap (λ (c : Option ℕ). of_current c None (page_record (page_in area 0 bytes)) (page_record (page_in area 1 bytes))) is
-record_current area (suc zero) bytes within is = ap (λ (c : Option ℕ). of_current c None (page_record (page_in area 0 bytes)) (page_record (page_in area 1 bytes))) is
+record_current area zero bytes within is = ap (λ (c : Option ℕ). of_current c None (own_record (page_in area 0 bytes)) (own_record (page_in area 1 bytes))) is
+record_current area (suc zero) bytes within is = ap (λ (c : Option ℕ). of_current c None (own_record (page_in area 0 bytes)) (own_record (page_in area 1 bytes))) is
 record_current area (suc (suc page)) bytes within is = absurd (omega arith)
 
 pub record_none : (area : ℕ) (bytes : List ℕ) → current_in area bytes ≡ None → record_in area bytes ≡ None
 unfolding record_in
-record_none area bytes is = ap (λ (c : Option ℕ). of_current c None (page_record (page_in area 0 bytes)) (page_record (page_in area 1 bytes))) is
+record_none area bytes is = ap (λ (c : Option ℕ). of_current c None (own_record (page_in area 0 bytes)) (own_record (page_in area 1 bytes))) is
 
 pub state_current : (area page : ℕ) (bytes : List ℕ) → page ≤ 1 → current_in area bytes ≡ Some page → state_in area bytes ≡ page_state page (page_in area page bytes)
 state_current area zero bytes within is =
@@ -163,13 +167,19 @@ none_next area g old new is same next =
 
 -- ---- pages, heads and cells as ranges of the flash
 
-pub head_in : (area page : ℕ) (bytes : List ℕ) → take 16 (page_in area page bytes) ≡ range bytes (area + 4096 * page) 16
+pub head_range : (area page : ℕ) (bytes : List ℕ) → take 16 (page_in area page bytes) ≡ range bytes (area + 4096 * page) 16
 unfolding page_in
-head_in area page bytes = range-range bytes (area + 4096 * page) 4096 0 16 (omega arith) ∙ (let at : (area + 4096 * page) + 0 ≡ area + 4096 * page = omega arith in ap (λ (k : ℕ). range bytes k 16) at)
+head_range area page bytes = range-range bytes (area + 4096 * page) 4096 0 16 (omega arith) ∙ (let at : (area + 4096 * page) + 0 ≡ area + 4096 * page = omega arith in ap (λ (k : ℕ). range bytes k 16) at)
 
-pub cell_in : (area page : ℕ) (bytes : List ℕ) (cell : ℕ) → cell < 255 → cell_of (page_in area page bytes) cell ≡ range bytes (area + 4096 * page + (16 + 16 * cell)) 16
+-- a cell lies in its page
+pub cell_inside : (form : NvForm) (cell : ℕ) → cell < cells_in form → cell_place form cell + record_size form ≤ 4096
+cell_inside V1 cell below = omega arith
+cell_inside V2 cell below = omega arith
+
+pub cell_in : (form : NvForm) (area page : ℕ) (bytes : List ℕ) (cell : ℕ) → cell < cells_in form
+    → cell_of form (page_in area page bytes) cell ≡ range bytes (area + 4096 * page + cell_place form cell) (record_size form)
 unfolding page_in
-cell_in area page bytes cell below = range-range bytes (area + 4096 * page) 4096 (16 + 16 * cell) 16 (omega arith)
+cell_in form area page bytes cell below = range-range bytes (area + 4096 * page) 4096 (cell_place form cell) (record_size form) (cell_inside form cell below)
 
 -- a page stays where the other one changed
 pub page_stays : (area page other : ℕ) (old new : List ℕ) → page + other ≡ 1 → SameBut (area + 4096 * other) 4096 old new → page_in area page new ≡ page_in area page old

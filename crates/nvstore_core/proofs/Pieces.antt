@@ -1,44 +1,29 @@
--- What a failed change leaves in the first 16 bytes of its range, where torn bytes do not pass their checks.
-use Rattle.std.proofs.Common.{◌≡◌, ◌⊎◌, ℕ, ◌+◌, ◌-◌, ◌*◌, ◌<◌, ◌≤◌, min, List, [], ◌∷◌, ◌++◌, length, take, drop, refl, sym, ap, subst, ◌∙◌, arith, inl, inr, append_assoc, length-take, length-drop}
+-- What a failed change leaves at the front of its range, where torn bytes do not pass their checks.
+use Rattle.std.proofs.Common.{◌≡◌, ◌⊎◌, ℕ, zero, suc, ◌+◌, ◌-◌, ◌/◌, ◌<◌, ◌≤◌, min, List, [], ◌∷◌, ◌++◌, length, take, drop, refl, sym, ap, subst, ◌∙◌, arith, inl, inr, append_assoc, length-take, length-drop}
 use Rattle.std.specs.Prelude.{All, replicate}
 use Rattle.std.proofs.lemmas.Bool.{cases_lt}
-use Rattle.std.proofs.lemmas.List.{drop_at, drop-drop, take-take, take-append-le, take-append-drop, length-take-le}
-use Rattle.std.proofs.lemmas.List.Elements.{All-head}
+use Rattle.std.proofs.lemmas.List.{take_at, take_all, take-take, take-append-le, take-append-drop, drop-drop, drop-take, length-take-le}
+use Rattle.std.proofs.lemmas.List.Elements.{All-nil, All-cons, All-head}
 use Rattle.board_core.specs.declared.torn.Torn.{Torn}
-use Rattle.board_core.specs.Torn.{Logs, added, torn_piece, padded_piece}
+use Rattle.board_core.specs.Torn.{torn_piece, torn_pieces, torn_records, padded_piece, added}
 use Rattle.board_core.specs.Flash.{FlashMedium, LeftTorn, range, spliced}
+use Rattle.board_core.specs.Disk.{overlaid}
 use Rattle.board_core.proofs.TornRecords.{torn_records-more}
-use Rattle.board_core.proofs.Overlays.{length-spliced}
+use Rattle.board_core.proofs.Overlays.{length-spliced, spliced_then}
 use Rattle.nvstore_core.specs.Saving.{SameBut}
-use Rattle.nvstore_core.specs.Fair.{IsFairAt, IsFairIn, IsNothing}
-use Rattle.nvstore_core.proofs.Frames.{same_but_spliced, range-spliced_front}
+use Rattle.nvstore_core.specs.Fair.{IsFairAt, IsFairlyLeft, IsNothing}
+use Rattle.nvstore_core.proofs.Frames.{same_but_spliced, range-spliced_same}
 
 -- a failed change leaves all bytes outside its range
 pub left_frame : (at : ℕ) (meant : List ℕ) (old new : FlashMedium) → at ≤ length old.bytes → LeftTorn at meant old new → SameBut at (length meant) old.bytes new.bytes
 left_frame at meant old new inside left =
-    subst (λ (bytes : List ℕ). SameBut at (length meant) old.bytes bytes) (sym left.bytes) (same_but_spliced old.bytes at left.left (length meant) inside (omega (arith, left.fits, left.within)))
+    subst (λ (bytes : List ℕ). SameBut at (length meant) old.bytes bytes) (sym left.bytes)
+    (same_but_spliced old.bytes at left.left (length meant) inside (omega (arith, left.fits, left.within)))
 
 -- the first bytes of a record's piece
 pub padded_front : (count : ℕ) (bytes : List ℕ) → count ≤ length bytes → count ≤ 512 → take count (padded_piece bytes) ≡ take count bytes
 padded_front count bytes within few =
     take-append-le count (take 512 bytes) (replicate (512 - length bytes) 0) (omega (arith, length-take 512 bytes)) ∙ take-take count 512 bytes few
-
--- the old bytes, where they are put back
-put_back : (at m n : ℕ) (old new : List ℕ) → at + n ≤ length old → at ≤ length new → SameBut at n old new → m ≤ n → (m < 16 → m ≡ n)
-    → range (spliced new at (range old at m)) at 16 ≡ range old at 16
-put_back at m n old new inside inside' same within short =
-    let x = range old at m in
-    let long : length x ≡ m = omega (arith, length-take m (drop at old), length-drop at old) in
-    elim (cases_lt m 16) [
-      | inr full ↦ range-spliced_front new at x 16 inside' (omega arith) ∙ take-take 16 m (drop at old) full
-      | inl part ↦
-          let all : m ≡ n = short part in
-          let rest : drop (at + length x) new ≡ drop (at + m) old = ap (λ (k : ℕ). drop (at + k) new) (long ∙ all) ∙ same.behind ∙ ap (λ (k : ℕ). drop (at + k) old) (sym all) in
-          ap (λ (l : List ℕ). take 16 (drop at l)) (append_assoc (take at new) x (drop (at + length x) new))
-          ∙ ap (take 16) (drop_at (take at new) (x ++ drop (at + length x) new) at (length-take-le at new inside'))
-          ∙ ap (λ (l : List ℕ). take 16 (x ++ l)) (rest ∙ sym (drop-drop m at old))
-          ∙ ap (take 16) (take-append-drop m (drop at old))
-    ]
 
 empty_of : (xs : List ℕ) → length xs ≡ 0 → xs ≡ []
 empty_of [] none = refl
@@ -49,52 +34,137 @@ spliced_none bytes at =
     let none : at + 0 ≡ at = omega arith in
     append_assoc (take at bytes) [] (drop (at + 0) bytes) ∙ ap (λ (n : ℕ). take at bytes ++ drop n bytes) none ∙ take-append-drop at bytes
 
--- what fairness says of the first record
-first_fair : (area count k at n : ℕ) (was meant left : List ℕ) (rest : List Torn) (old new : FlashMedium) → k < count → at ≡ area + 16 * k → 0 < n → length meant ≡ n
-    → added old.torn new.torn ≡ torn_piece at was meant left ∷ rest → IsFairIn area count old new → IsFairAt new.bytes (torn_piece at was meant left) at
-first_fair area count k at n was meant left rest old new below is some long noted fair =
-    let piece = torn_piece at was meant left in
-    let P = λ (torn : Torn). (j : ℕ) → j < count → torn.at < area + 16 * j + 16 → area + 16 * j < torn.at + torn.len → IsFairAt new.bytes torn (area + 16 * j) in
-    let all : All P (piece ∷ rest) = subst (All P) noted fair.each in
-    subst (IsFairAt new.bytes piece) (sym is) (All-head P piece rest all k below (omega arith) (omega arith))
+-- ---- the records of a range
 
--- The first 16 bytes of the range hold what they held, or what was meant, or nothing.
-pub piece_left : (area count k at : ℕ) (meant : List ℕ) (old new : FlashMedium) → k < count → at ≡ area + 16 * k → 16 ≤ length meant → at + length meant ≤ length old.bytes → LeftTorn at meant old new
-    → IsFairIn area count old new → (range new.bytes at 16 ≡ range old.bytes at 16) ⊎ (range new.bytes at 16 ≡ take 16 meant) ⊎ IsNothing (range new.bytes at 16)
-piece_left area count k at meant old new below is enough inside torn fair =
-    let n = torn.count in
-    let was = range old.bytes at n in
-    let m = min n 512 in
-    let meant_len : length (take n meant) ≡ n = length-take-le n meant torn.within in
-    let was_len : length was ≡ n = omega (arith, length-take n (drop at old.bytes), length-drop at old.bytes, torn.within) in
-    let same : SameBut at n old.bytes new.bytes =
-    subst (λ (bytes : List ℕ). SameBut at n old.bytes bytes) (sym torn.bytes) (same_but_spliced old.bytes at torn.left n (omega arith) (omega (arith, torn.fits))) in
-    let inside' : at ≤ length new.bytes = omega (arith, ap length torn.bytes, length-spliced old.bytes at torn.left (omega (arith, torn.fits, torn.within)), torn.within) in
-    elim (cases_lt 0 n) [
+-- what the first piece left
+piece_left_bytes : (meant left : List ℕ) → length left ≡ length meant → take (min (length meant) 512) (padded_piece left) ≡ take 512 left
+piece_left_bytes meant left fits = take_at (take 512 left) (replicate (512 - length left) 0) (min (length meant) 512) (omega (arith, length-take 512 left))
+
+overlaid-pieces : (count at : ℕ) (bytes was meant left : List ℕ) → count ≡ (length meant + 511) / 512 → length left ≡ length meant → at + length left ≤ length bytes
+    → overlaid bytes (torn_pieces count at was meant left) ≡ spliced bytes at left
+overlaid-pieces zero at bytes was meant left all fits inside =
+    sym (ap (spliced bytes at) (empty_of left (omega (arith, all))) ∙ spliced_none bytes at)
+overlaid-pieces (suc zero) at bytes was meant left all fits inside =
+    let few : length left ≤ 512 = omega (arith, all) in
+    ap (spliced bytes at) (piece_left_bytes meant left fits ∙ take_all 512 left few)
+overlaid-pieces (suc (suc count)) at bytes was meant left all fits inside =
+    let front : take 512 left ≡ take (min (length meant) 512) (padded_piece left) = sym (piece_left_bytes meant left fits) in
+    let more : 512 < length left = omega (arith, all) in
+    let long : length (take 512 left) ≡ 512 = omega (arith, length-take 512 left) in
+    let room : at + length (take 512 left) ≤ length bytes = omega arith in
+    let same = length-spliced bytes at (take 512 left) room in
+    let rest : length (drop 512 left) ≡ length (drop 512 meant) = omega (arith, length-drop 512 left, length-drop 512 meant) in
+    ap (λ (l : List ℕ). overlaid (spliced bytes at l) (torn_pieces (suc count) (at + 512) (drop 512 was) (drop 512 meant) (drop 512 left))) (sym front)
+    ∙ overlaid-pieces (suc count) (at + 512) (spliced bytes at (take 512 left)) (drop 512 was) (drop 512 meant) (drop 512 left)
+    (omega (arith, all, length-drop 512 meant)) rest (omega (arith, length-drop 512 left, same))
+    ∙ ap (λ (n : ℕ). spliced (spliced bytes at (take 512 left)) (at + n) (drop 512 left)) (sym long)
+    ∙ spliced_then bytes at (take 512 left) (drop 512 left) room
+    ∙ ap (spliced bytes at) (take-append-drop 512 left)
+
+-- the records of a range put over are the range put over
+pub overlaid-range : (at : ℕ) (bytes was meant left : List ℕ) → length left ≡ length meant → at + length left ≤ length bytes → overlaid bytes (torn_records at was meant left) ≡ spliced bytes at left
+unfolding torn_records
+overlaid-range at bytes was meant left fits inside = overlaid-pieces ((length meant + 511) / 512) at bytes was meant left refl fits inside
+
+-- and what each of them left stands there
+pieces_stand : (count at : ℕ) (bytes was meant left : List ℕ) → length left ≡ length meant → range bytes at (length left) ≡ left
+    → All (λ torn. range bytes torn.at torn.len ≡ take torn.len torn.left) (torn_pieces count at was meant left)
+pieces_stand zero at bytes was meant left fits here = All-nil (λ torn. range bytes torn.at torn.len ≡ take torn.len torn.left)
+pieces_stand (suc count) at bytes was meant left fits here =
+    let n = min (length meant) 512 in
+    let first : range bytes at n ≡ take n (padded_piece left) =
+    sym (take-take n (length left) (drop at bytes) (omega arith)) ∙ ap (take n) here ∙ sym (padded_front n left (omega arith) (omega arith)) in
+    let rest : range bytes (at + 512) (length (drop 512 left)) ≡ drop 512 left =
+    elim (cases_lt 512 (length left)) [
+      | inl more ↦
+          let whole : 512 + (length left - 512) ≡ length left = omega arith in
+          ap (λ (k : ℕ). take k (drop (at + 512) bytes)) (length-drop 512 left)
+          ∙ ap (take (length left - 512)) (sym (drop-drop 512 at bytes))
+          ∙ sym (drop-take 512 (length left - 512) (drop at bytes))
+          ∙ ap (λ (k : ℕ). drop 512 (take k (drop at bytes))) whole
+          ∙ ap (drop 512) here
+      | inr few ↦
+          let none : drop 512 left ≡ [] = empty_of (drop 512 left) (omega (arith, length-drop 512 left)) in
+          ap (λ (l : List ℕ). range bytes (at + 512) (length l)) none ∙ sym none
+    ] in
+    All-cons (λ torn. range bytes torn.at torn.len ≡ take torn.len torn.left) (torn_piece at was meant left) _ first
+    (pieces_stand count (at + 512) bytes (drop 512 was) (drop 512 meant) (drop 512 left) (omega (arith, length-drop 512 left, length-drop 512 meant)) rest)
+
+-- ---- a change that failed
+
+-- what its records left, put over bytes
+left_over : (at : ℕ) (meant before : List ℕ) (mid new : FlashMedium) (left : LeftTorn at meant mid new) → at + length meant ≤ length before
+    → overlaid before (added mid.torn new.torn) ≡ spliced before at left.left
+left_over at meant before mid new left inside =
+    let fits : length left.left ≡ length (take left.count meant) = left.fits ∙ sym (length-take-le left.count meant left.within) in
+    ap (overlaid before) left.noted
+    ∙ overlaid-range at before (range mid.bytes at left.count) (take left.count meant) left.left fits (omega (arith, left.fits, left.within))
+
+-- each of its records tells what stands
+pub left_stands : (at : ℕ) (meant : List ℕ) (old new : FlashMedium) → at + length meant ≤ length old.bytes → LeftTorn at meant old new
+    → All (λ torn. range new.bytes torn.at torn.len ≡ take torn.len torn.left) (added old.torn new.torn)
+unfolding torn_records
+left_stands at meant old new inside left =
+    let fits : length left.left ≡ length (take left.count meant) = left.fits ∙ sym (length-take-le left.count meant left.within) in
+    let here : range new.bytes at (length left.left) ≡ left.left =
+    ap (λ (b : List ℕ). range b at (length left.left)) left.bytes
+    ∙ range-spliced_same old.bytes at left.left (length left.left) (omega (arith, left.fits, left.within)) refl in
+    subst (All (λ torn. range new.bytes torn.at torn.len ≡ take torn.len torn.left)) (sym left.noted)
+    (pieces_stand ((length (take left.count meant) + 511) / 512) at new.bytes (range old.bytes at left.count) (take left.count meant) left.left fits here)
+
+-- what fairness says of the first bytes of its range, where it began
+first_fair : (at size : ℕ) (meant before : List ℕ) (mid new : FlashMedium) (left : LeftTorn at meant mid new) → 0 < left.count → 0 < size
+    → at + length meant ≤ length before → IsFairlyLeft before (added mid.torn new.torn) at size
+    → IsFairAt before (spliced before at left.left) (torn_piece at (range mid.bytes at left.count) (take left.count meant) left.left) at size
+first_fair at size meant before mid new left some wide inside fair =
+    let long : length (take left.count meant) ≡ left.count = length-take-le left.count meant left.within in
+    let was = range mid.bytes at left.count in
+    let piece = torn_piece at was (take left.count meant) left.left in
+    let n = min left.count 512 in
+    let P = λ (torn : Torn). torn.at < at + size → at < torn.at + torn.len → IsFairAt before (overlaid before (added mid.torn new.torn)) torn at size in
+    let noted = left.noted ∙ torn_records-more at n was (take left.count meant) left.left (ap (λ (k : ℕ). min k 512) (sym long)) (omega arith) in
+    subst (λ (l : List ℕ). IsFairAt before l piece at size) (left_over at meant before mid new left inside)
+    (All-head P piece _ (subst (All P) noted fair) (omega arith) (omega (arith, long)))
+
+-- The first bytes of its range, put over the bytes from before: they are those, or what was meant, or nothing.
+pub front_fair : (at size : ℕ) (meant before : List ℕ) (mid new : FlashMedium) (left : LeftTorn at meant mid new) → 0 < left.count → 0 < size → size ≤ 512
+    → at + length meant ≤ length before → IsFairlyLeft before (added mid.torn new.torn) at size
+    → let l = spliced before at left.left in
+    (range l at size ≡ range before at size) ⊎ ((size ≤ left.count) × (range l at size ≡ take size meant)) ⊎ IsNothing (range l at size)
+front_fair at size meant before mid new left some wide few inside fair =
+    let long : length (take left.count meant) ≡ left.count = length-take-le left.count meant left.within in
+    elim (first_fair at size meant before mid new left some wide inside fair) [
+      | inl kept ↦ inl kept
+      | inr more ↦ elim more [
+        | inl full ↦
+            let covered : size ≤ left.count = omega (arith, full.1, long) in
+            let first : at - at ≡ 0 = omega arith in
+            inr (inl (
+              covered,
+              full.2
+                  ∙ ap (λ (k : ℕ). take size (drop k (padded_piece (take left.count meant)))) first
+                  ∙ padded_front size (take left.count meant) (omega (arith, long)) few
+                  ∙ take-take size left.count meant covered,
+            ))
+        | inr nothing ↦ inr (inr nothing)
+      ]
+    ]
+
+-- So they stand where it is the only call.
+pub piece_left : (at size : ℕ) (meant : List ℕ) (old new : FlashMedium) → 0 < size → size ≤ 512 → at + length meant ≤ length old.bytes
+    → LeftTorn at meant old new → IsFairlyLeft old.bytes (added old.torn new.torn) at size
+    → (range new.bytes at size ≡ range old.bytes at size) ⊎ (range new.bytes at size ≡ take size meant) ⊎ IsNothing (range new.bytes at size)
+piece_left at size meant old new wide few inside left fair =
+    elim (cases_lt 0 left.count) [
       | inr none ↦
-          let nothing : torn.left ≡ [] = empty_of torn.left (omega (arith, torn.fits)) in
-          inl (ap (λ (l : List ℕ). range l at 16) (torn.bytes ∙ ap (spliced old.bytes at) nothing ∙ spliced_none old.bytes at))
+          let nothing : left.left ≡ [] = empty_of left.left (omega (arith, left.fits)) in
+          inl (ap (λ (l : List ℕ). range l at size) (left.bytes ∙ ap (spliced old.bytes at) nothing ∙ spliced_none old.bytes at))
       | inl some ↦
-          let len : min (length (take n meant)) 512 ≡ m = ap (λ (x : ℕ). min x 512) meant_len in
-          let noted = torn.noted ∙ torn_records-more at m was (take n meant) torn.left (sym len) (omega arith) in
-          let old_part : take (min (length (take n meant)) 512) (padded_piece was) ≡ range old.bytes at m =
-          ap (λ (x : ℕ). take x (padded_piece was)) len ∙ padded_front m was (omega arith) (omega arith) ∙ take-take m n (drop at old.bytes) (omega arith) in
-          let new_part : take (min (length (take n meant)) 512) (padded_piece (take n meant)) ≡ take m meant =
-          ap (λ (x : ℕ). take x (padded_piece (take n meant))) len ∙ padded_front m (take n meant) (omega arith) (omega arith) ∙ take-take m n meant (omega arith) in
-          elim (first_fair area count k at n was (take n meant) torn.left _ old new below is some meant_len noted fair) [
-            | inl kept ↦ inl (kept ∙ ap (λ (l : List ℕ). range (spliced new.bytes at l) at 16) old_part ∙ put_back at m n old.bytes new.bytes (omega (arith, torn.within)) inside' same (omega arith) (λ short. omega arith))
+          elim (front_fair at size meant old.bytes old new left some wide few inside fair) [
+            | inl kept ↦ inl (ap (λ (l : List ℕ). range l at size) left.bytes ∙ kept)
             | inr more ↦ elim more [
-              | inl full ↦
-                  let whole : 16 ≤ m = omega (arith, full.1, len) in
-                  let size : length (take m meant) ≡ m = length-take-le m meant (omega (arith, torn.within)) in
-                  inr (inl (full.2 ∙ ap (λ (l : List ℕ). range (spliced new.bytes at l) at 16) new_part ∙ range-spliced_front new.bytes at (take m meant) 16 inside' (omega arith) ∙ take-take 16 m meant whole))
-              | inr nothing ↦ inr (inr nothing)
+              | inl full ↦ inr (inl (ap (λ (l : List ℕ). range l at size) left.bytes ∙ full.1))
+              | inr nothing ↦ inr (inr (subst (λ (l : List ℕ). IsNothing (range l at size)) (sym left.bytes) nothing))
             ]
           ]
     ]
-
--- the premise from a later flash on, where no record was added before
-pub fair_from : (area count : ℕ) (old mid new : FlashMedium) → mid.torn ≡ old.torn → IsFairIn area count old new → IsFairIn area count mid new
-fair_from area count old mid new same fair = record {
-  each = subst (λ (logs : Logs). All (λ torn. (k : ℕ) → k < count → torn.at < area + 16 * k + 16 → area + 16 * k < torn.at + torn.len → IsFairAt new.bytes torn (area + 16 * k)) (added logs new.torn)) (sym same) fair.each;
-}

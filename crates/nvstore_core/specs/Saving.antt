@@ -3,7 +3,7 @@ use Rattle.std.specs.Prelude.{◌≡◌, ℕ, ◌+◌, ◌*◌, List, take, drop
 use Rattle.board_core.specs.Counters.{Observed, MadeChanges, Rose}
 use Rattle.board_core.specs.Flash.{FlashState, range}
 use Rattle.nvstore_core.specs.declared.state.NvState.{NvState}
-use Rattle.nvstore_core.specs.Pages.{IsStateOf, InRange, calls_to_save, page_to_write, bytes_with_record, record_in, state_with_record}
+use Rattle.nvstore_core.specs.Pages.{IsStateOf, InRange, cell_place, calls_to_save, page_to_write, bytes_with_record, record_in, state_with_record}
 use Rattle.nvstore_core.specs.Fair.{FailsToStore}
 
 -- all bytes but so many from a place stay
@@ -19,7 +19,7 @@ SameButPages area old new = SameBut area 8192 old new
 abbrev pub KeepsWritten : ℕ → NvState → List ℕ → List ℕ → Type 0
 KeepsWritten area state old new =
     IfSome state.page (λ page.
-    range new (area + 4096 * page) (16 + 16 * state.next) ≡ range old (area + 4096 * page) (16 + 16 * state.next))
+    range new (area + 4096 * page) (cell_place state.form state.next) ≡ range old (area + 4096 * page) (cell_place state.form state.next))
 
 -- The call to load the state of the pages.
 pub record Loads {E : Type 0} (area : ℕ) (old new : FlashState) (result : Result NvState E) : Type 0 where
@@ -32,14 +32,14 @@ pub record Loads {E : Type 0} (area : ℕ) (old new : FlashState) (result : Resu
 
 -- The call to save a record, from the state of the pages.
 pub record Saves {E : Type 0} (area : ℕ) (was : NvState) (r : List ℕ) (old new : FlashState) (result : Result Unit E) : Type 0 where
-  pub counters : MadeChanges old.counters new.counters (calls_to_save was) (is_err result)
+  pub counters : MadeChanges old.counters new.counters (calls_to_save was r) (is_err result)
   -- only a changing call that failed makes it fail
   pub broke : OnErr result (Rose old.counters.failed_changes new.counters.failed_changes)
   pub size : new.medium.size ≡ old.medium.size
   pub told : new.medium.told ≡ old.medium.told
   pub outside : IsTrue old.medium.told → SameButPages area old.medium.bytes new.medium.bytes
   -- whatever the answer, one page alone changes
-  pub page : IsTrue old.medium.told → SameBut (area + 4096 * page_to_write was) 4096 old.medium.bytes new.medium.bytes
+  pub page : IsTrue old.medium.told → SameBut (area + 4096 * page_to_write was r) 4096 old.medium.bytes new.medium.bytes
   pub kept : IsTrue old.medium.told → KeepsWritten area was old.medium.bytes new.medium.bytes
   -- one cell changed, or one page
   pub bytes : IsTrue old.medium.told → OnOk result (new.medium.bytes ≡ bytes_with_record area was r old.medium.bytes)

@@ -12,6 +12,6 @@ mod saving;
 mod state;
 
 pub use loading::load;
-pub use page::page_head;
+pub use page::{PageHead, page_head};
 pub use saving::save;
 pub use state::NvState;

@@ -2,13 +2,13 @@
 ghost use Rattle.std.specs.Prelude.{◌≡◌, ◌+◌, ◌*◌, ◌%◌, ◌≤◌, length, IfSome, unwrap_or, is_some};
 ghost use Rattle.record_core.specs.Nv.{blank_record};
 ghost use Rattle.board_core.specs.Flash.{FlashState};
-ghost use Rattle.nvstore_core.specs.Pages.{current_page, page_state, state_of_pages, InRange};
+ghost use Rattle.nvstore_core.specs.Pages.{current_page, page_state, state_of_pages, InRange, generation_by, form_by};
 ghost use Rattle.nvstore_core.specs.Saving.{Loads};
 
-use crate::page::{CELLS, PAGE_SIZE, first_of_tail, generation_of, last_good_record};
+use crate::page::{PAGE_SIZE, PageHead, cells, first_of_tail, head_of_page, last_good_record};
 use crate::state::NvState;
 use board_core::{Failed, Flash};
-use record_core::Nv;
+use record_core::{Nv, NvForm};
 
 // The number of the current page, from the generations of both.
 fn current_of(first: Option<u8>, second: Option<u8>) -> Option<u8>
@@ -29,6 +29,26 @@ fn current_of(first: Option<u8>, second: Option<u8>) -> Option<u8>
     }
 }
 
+fn generation_of(head: Option<PageHead>) -> Option<u8>
+    requires { IfSome head (λ head. head.generation ≤ 2) }
+    ensures generation { result ≡ generation_by head }
+    ensures within { IfSome result (λ generation. generation ≤ 2) }
+{
+    match head {
+        None => None,
+        Some(head) => Some(head.generation),
+    }
+}
+
+fn form_of(head: Option<PageHead>) -> NvForm
+    ensures { result ≡ form_by head }
+{
+    match head {
+        None => NvForm::V1,
+        Some(head) => head.form,
+    }
+}
+
 // What a page stands for that is current.
 #[tactic(auto, unfolding(crate::specs::Pages::page_state))]
 fn state_of_page(number: u8, page: &[u8; 4096]) -> NvState
@@ -36,11 +56,14 @@ fn state_of_page(number: u8, page: &[u8; 4096]) -> NvState
     ensures state { result ≡ page_state number page.now }
     ensures within { InRange result }
 {
-    let record = last_good_record(page);
+    let head = head_of_page(page);
+    let form = form_of(head);
+    let record = last_good_record(form, page);
     NvState {
         page: Some(number),
-        generation: generation_of(page).unwrap_or(0),
-        next: first_of_tail(page),
+        form,
+        generation: generation_of(head).unwrap_or(0),
+        next: first_of_tail(form, page),
         nv: record.unwrap_or(Nv::blank()),
         stands: record.is_some(),
     }
@@ -51,11 +74,14 @@ fn state_of(first: &[u8; 4096], second: &[u8; 4096]) -> NvState
     ensures state { result ≡ state_of_pages first.now second.now }
     ensures within { InRange result }
 {
-    match current_of(generation_of(first), generation_of(second)) {
+    let first_generation = generation_of(head_of_page(first));
+    let second_generation = generation_of(head_of_page(second));
+    match current_of(first_generation, second_generation) {
         None => NvState {
             page: None,
+            form: NvForm::V1,
             generation: 0,
-            next: CELLS,
+            next: cells(NvForm::V1),
             nv: Nv::blank(),
             stands: false,
         },

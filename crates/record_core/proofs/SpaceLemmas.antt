@@ -1,12 +1,12 @@
 -- The number of a space that has no fault, and the kernel space of 13 bytes.
-use Rattle.std.proofs.Common.{◌≡◌, ℕ, ◌+◌, ◌^◌, ◌<◌, Bool, true, false, List, [], ◌∷◌, ◌==◌, length, Option, Some, None, ◌∙◌, ap, sym, arith}
+use Rattle.std.proofs.Common.{◌≡◌, ℕ, ◌^◌, ◌<◌, Bool, false, List, [], ◌∷◌, ◌==◌, length, Option, Some, None, ◌∙◌, ap, sym, arith}
 use Rattle.std.proofs.lemmas.Grind.{common_steps}
 use Rattle.std.specs.Prelude.{◌||◌, not, nat_lt, slice_index, if◌then◌else◌}
 use Rattle.wire_core.specs.Fields.{number_at, with_number}
 use Rattle.wire_core.specs.FirstFault.{Table, line, first_fault}
 use Rattle.record_core.specs.declared.space.SpaceFault.{SpaceFault}
 use Rattle.record_core.specs.declared.space.SpaceFault.TheVariants as fault
-use Rattle.record_core.specs.Space.{number_of_good, has_wrong_crc, has_wrong_front_crc, with_crc, kernel_fault, kernel_size, kernel_v1_size, kernel_v1_size_at, kernel_v1_crc_at, kernel_crc_at, kernel_uid_at, kernel_uid, is_v1}
+use Rattle.record_core.specs.Space.{number_of_good, has_wrong_crc, has_wrong_front_crc, with_crc, kernel_fault, kernel_size, kernel_v1_size, kernel_v1_size_at, kernel_v1_crc_at, kernel_crc_at, kernel_uid_at, kernel_uid}
 
 pub number_of_good-none : (fault : Option SpaceFault) (number value : ℕ) → fault ≡ None → number ≡ value → number_of_good fault number ≡ Some value
 number_of_good-none fault number value good same = ap (λ (f : Option SpaceFault). number_of_good f number) good ∙ ap (λ (n : ℕ). Some n) same

@@ -10,5 +10,5 @@ mod space;
 pub use field::{NvField, fits};
 pub use fw_space::FwSpace;
 pub use kernel_space::KernelSpace;
-pub use nv::Nv;
+pub use nv::{Ceiling, Nv, NvForm};
 pub use space::SpaceFault;

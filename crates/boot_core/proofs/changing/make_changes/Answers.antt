@@ -45,5 +45,5 @@ returns-clause-makes g c = λ (table : PartitionTable) own.
     let old : World = world g.F.Flash.state g.T.Tpm.state g.H.Hook.state c.args.p.now in
     let mid : World = world g.F.Flash.state g.T.Tpm.state g.H.Hook.state c.make_first.new.p in
     let new : World = world g.F.Flash.state g.T.Tpm.state g.H.Hook.state c.make_later.new.p in
-    makes_both {T = ℕ} table c.args.found.now c.args.plan.now c.make_first.new.state old mid new c.in_ok-done.done c.in_ok-done.done c.make_later.result c.in_ok-done.ensures.count c.in_ok-done.ensures.state
+    makes_both {T = ℕ} table c.args.found.now c.args.plan.now c.make_first.new.state old mid new c.in_ok-done.done c.in_ok-done.done c.make_later.result c.in_ok-done.ensures.count c.requires.alike c.in_ok-done.ensures.state
     c.requires.within (c.in_ok-done.ensures.makes table) (c.make_later.ensures.makes table own)

@@ -1,11 +1,10 @@
 -- The new space of 13 bytes is good and has the new versions, so these are the ones stored.
-use Rattle.std.proofs.Common.{◌≡◌, ℕ, List, None, arith, length, ap, subst, ◌∙◌}
+use Rattle.std.proofs.Common.{◌≡◌, arith, length, ap, subst, ◌∙◌}
 use Rattle.std.proofs.lemmas.Grind.{common_steps}
-use Rattle.wire_core.specs.Fields.{with_number}
 use Rattle.record_core.specs.declared.kernel_space.KernelLayout.TheVariants.{V0}
 use Rattle.record_core.specs.KernelLayouts.{IsWhole}
 use Rattle.record_core.specs.Space.{kernel_fault, kernel_versions, with_crc}
-use Rattle.record_core.proofs.SpaceLemmas.{number_of_good-none, with_versions-good, KeepsForm}
+use Rattle.record_core.proofs.SpaceLemmas.{number_of_good-none, with_versions-good}
 use Rattle.record_core.proofs.kernel_space.KernelSpace.set_versions.Goals as goal
 
 pub invariant_of-self : goal.invariant_of-self

@@ -5,4 +5,4 @@ use Rattle.record_core.proofs.nv.Nv.blank.Goals as goal
 
 pub invariant_of-result : goal.invariant_of-result
 unfolding crc8_of remainder
-invariant_of-result c = refl
+invariant_of-result c = record { size = refl; good = refl }

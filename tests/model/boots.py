@@ -17,7 +17,7 @@ def plan_of(m, recovery=False, enable_dev=False, choice='default'):
     areas = read_map(m.flash, map_place(m.flash))
     if isinstance(areas, int): return Plan(11, [f'bad flash {areas}'])
     gbb_area, nvram, vblock_a, main_a, vblock_b, main_b = areas
-    nv = nv_state(m.flash, nvram[0])[3] or BLANK
+    nv = nv_state(m.flash, nvram[0]).record or BLANK
     store = lambda bs: ('nv', nvram[0], bs)
     n0 = record(nv, RecoveryRequest=0, RecoverySubcode=0)
     gbb = read_gbb(m.flash[gbb_area[0]:sum(gbb_area)])
@@ -51,7 +51,7 @@ def plan_of(m, recovery=False, enable_dev=False, choice='default'):
         return reboot(*good, requested, firmware_with(new_flags, stored[0]), store(after))
     version, many, subkey = good
     rises = version > stored[0] and last_slot == slot and last_result == 2
-    stored = (version if rises else stored[0], stored[1])
+    stored = (max(stored[0], min(version, ceilings(nv)[0])) if rises else stored[0], stored[1])
     changes = [firmware_with(new_flags, stored[0]), store(n1)]
     return with_kernel(m, mode, choice, nv, n1, n2, store, gbb_flags, dev_on, 'AB'[slot], (version, many), subkey, stored, changes)
 
@@ -74,7 +74,7 @@ def with_kernel(m, mode, choice, nv, n1, n2, store, gbb_flags, dev_on, slot, fir
         after, requested = n2(31, 0)
         return reboot(31, 0, requested, *changes, store(after))
     rises = mode == 'normal' and get(n1, 'Result') != 1 and head.version > stored[1]
-    stored = (stored[0], lowest if rises else stored[1])
+    stored = (stored[0], max(stored[1], min(lowest, ceilings(nv)[1])) if rises else stored[1])
     return hand_over(mode, slot, firmware, drive, i, head, stored, *changes, ('kernel', with_kernel_versions(m.kernel, stored[1])))
 
 # The machine after a change; the same one where the change is left out.
@@ -82,7 +82,7 @@ def after_change(m, change):
     kind, *what = change
     if kind == 'nv':
         area, nv = what
-        return m if nv_state(m.flash, area)[3] == nv else m.copy(flash=with_record(m.flash, area, nv))
+        return m if nv_state(m.flash, area).record == nv else m.copy(flash=with_record(m.flash, area, nv))
     if kind == 'disk': return m.copy(disk=with_table(m.disk, what[0]))
     return m if getattr(m, kind) == what[0] else m.copy(**{kind: what[0]})
 

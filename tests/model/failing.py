@@ -39,4 +39,8 @@ def failing_forms():
     disk_machine(s); s.put('disk', 512, b'\0'); s.put('disk', A + 984, b'\3'); s.line('each disk futility show disk 2')
     s.no_table('disk'); s.line('each disk futility show disk 2')
     both_pages(s, 'each flash boot')
+    s.about('the same in pages of 64 bytes a cell: the next cell, the other page, and a page of the other form where no record stands')
+    put_cells(s, 1, 1, 16, {}); put_cells(s, 0, 2, 64, {0: of_tries(64, 2)}); s.line('each flash boot')
+    put_cells(s, 0, 2, 64, {62: of_tries(64, 2)}); s.line('each flash boot')
+    put_cells(s, 0, 2, 64, {}); s.line('each flash boot')
     return s

@@ -350,8 +350,8 @@ def walks(s):
 
 # A page of nvdata: its head, and a record in its first cells.
 def put_page(s, k, generation, used, tries, torn=False):
-    head = b'NVPG' + p32(generation) + bytes(7)
-    page = (head + bytes([0 if torn else crc8(head)]) + used * record(BLANK, TryCount=tries)).ljust(4096, b'\xff')
+    head = page_head(generation)
+    page = (head[:15] + bytes([0 if torn else head[15]]) + used * record(BLANK, TryCount=tries)).ljust(4096, b'\xff')
     for at in range(0, 4096, 1024): s.put('flash', 32768 + 4096 * k + at, page[at:at+1024])
 
 def both_pages(s, words):
@@ -360,8 +360,7 @@ def both_pages(s, words):
     for generations in ((1, 0), (1, 2), (2, 0), (1, 1)):
         s.again()
         for k in (0, 1):
-            head = b'NVPG' + p32(generations[k]) + bytes(7)
-            s.put('flash', 32768 + 4096 * k, head + bytes([crc8(head)]))
+            s.put('flash', 32768 + 4096 * k, page_head(generations[k]))
         s.line(words)
     s.again(); put_page(s, 0, 0, 7, 1); s.line(words)
     for k in (1, 0): s.again(); s.put('flash', 32768 + 4096 * k + 15, b'\0'); s.line(words)
@@ -413,7 +412,64 @@ def kernel_spaces(s):
                      (space_v1(0x10001, 0x20), 3), (space_v1(0x10001, 0x02), 3), (sealed(old.kernel[:1] + b'\0' + old.kernel[2:]), 4)):
         s.again(); s.space('kernel', bs); s.run('boot', f'screen reason 12 subcode {line}')
 
-GROUPS_OF_FORMS = (maps, gbbs, keyblocks, preambles, keys, algorithms, slots, bodies, heads, walks, pages, records, kernel_spaces)
+# A page of cells of this many bytes: its head, and what stands in these cells, or in as many as there is a record for.
+def put_cells(s, k, generation, size, cells, head=None):
+    page = bytearray((head or page_head(generation, size)).ljust(4096, b'\xff'))
+    for i, bs in cells.items(): page[size + size*i:size + size*i + len(bs)] = bs
+    s.rewritten('flash', changed(s.m.flash, 32768 + 4096 * k, page[:4096]))
+
+def of_tries(size, tries): # a blank record of this many bytes and tries
+    return record(up(BLANK) if size == 64 else BLANK, TryCount=tries)
+
+def page_forms(s):
+    s.about('pages of 63 cells of 64 bytes: a record in the first cell, in one of both, in the last one; the next one goes behind it or into the other page')
+    for i in (0, 1, 31, 62):
+        s.again(); put_cells(s, 0, 2, 64, {i: of_tries(64, 3)}); s.run('boot', 'mode normal')
+        assert nv_state(s.m.flash, 32768)[:4] == ((0, 2, 64, i + 2) if i < 62 else (1, 0, 64, 1)), i
+    s.about('all 63 cells are used; the bytes behind page 0 are no cell of it')
+    s.again(); put_cells(s, 0, 1, 64, {i: of_tries(64, 3) for i in range(63)}); s.run('boot', 'mode normal')
+    s.again(); put_cells(s, 0, 1, 64, {4: of_tries(64, 3)}); s.put('flash', 32768 + 4096, of_tries(64, 9)); s.run('boot', 'mode normal')
+    assert get(nv_state(s.m.flash, 32768).record, 'TryCount') == 2
+    s.about('the bytes between head and first cell are not looked at; a torn cell, and one of another form, is no record')
+    s.again(); put_cells(s, 0, 0, 64, {0: of_tries(64, 3)}); s.put('flash', 32784, bytes(48)); s.run('boot', 'mode normal')
+    good = of_tries(64, 3)
+    for bad in (good[:63] + b'\0', sealed(b'\x70' + good[1:63]), of_tries(16, 9), good[:15] + bytes([crc8(good[:15])]) + good[16:63] + b'\0'):
+        s.again(); put_cells(s, 0, 0, 64, {0: good, 1: bad}); s.run('boot', 'mode normal')
+        assert nv_state(s.m.flash, 32768)[:4] == (0, 0, 64, 3), bad
+    s.about('a page in which no record stands: the blank one goes into the other page, in its own form')
+    s.again(); put_cells(s, 0, 0, 64, {}); s.run('boot', 'mode normal')
+    assert nv_state(s.m.flash, 32768)[:4] == (1, 1, 16, 1)
+    s.again(); put_cells(s, 0, 0, 16, {0: of_tries(64, 3)}); s.run('boot', 'mode normal')
+    s.about('which page is current does not depend on the forms: each order of generations, one generation, a torn head, another byte of form')
+    for first, second in ((16, 64), (64, 16), (64, 64)):
+        for generations in ((0, 1), (1, 0), (2, 0), (0, 2), (1, 1)):
+            s.again()
+            for k, size in ((0, first), (1, second)): put_cells(s, k, generations[k], size, {0: of_tries(size, 4 + k)})
+            s.run('boot', 'mode normal')
+    for form in (0, 1, 3, 0xff):
+        s.again(); put_cells(s, 1, 0, 64, {0: of_tries(64, 4)}); put_cells(s, 0, 1, 64, {0: of_tries(64, 5)}, sealed(page_head(1, 64)[:8] + bytes([form]) + bytes(6)))
+        s.run('boot', 'mode normal')
+    assert [page_head(k, 64)[15] for k in range(3)] == [0xce, 0xd1, 0xf0]
+
+def with_ceiling(s, **which):
+    s.again(); put_cells(s, 0, 0, 64, {0: with_ceilings(nv_state(s.m.flash, 32768).record, **which)})
+
+def ceilings_of_versions(s):
+    s.about('ceilings below the stored version, at it, at the version it rises to, above it; none')
+    for ceiling in (0, 0x10000, 0x10001, 0x10002, 0x10003, 0xffffffff):
+        after = max(0x10001, min(0x10002, ceiling))
+        with_ceiling(s, firmware=ceiling); s.run('boot', f'stored 0x{after:08x} 0x00010002')
+        with_ceiling(s, kernel=ceiling); s.run('boot', f'stored 0x00010002 0x{after:08x}')
+    s.about('both; and the kernel rises as its ceiling does, by the next record')
+    with_ceiling(s, firmware=0x10001, kernel=0x10001); s.run('boot', 'stored 0x00010001 0x00010001')
+    with_ceiling(s, kernel=0x10001); s.run('boot', 'stored 0x00010002 0x00010001')
+    put_cells(s, 1, 1, 64, {0: with_ceilings(nv_state(s.m.flash, 32768).record, kernel=0x10002)}); s.run('boot', 'stored 0x00010002 0x00010002')
+    s.about('all bytes of the record that no field has stay, and both ceilings')
+    s.again(); put_cells(s, 0, 0, 64, {0: record(sealed(b'\xbf' + bytes(range(1, 63))), TryCount=3, RecoveryRequest=0, DisableDev=0)}); s.run('boot', 'mode normal')
+    s.run('boot', 'mode normal')
+    assert nv_state(s.m.flash, 32768).record[8:63] == bytes(range(8, 63))
+
+GROUPS_OF_FORMS = (maps, gbbs, keyblocks, preambles, keys, algorithms, slots, bodies, heads, walks, pages, records, kernel_spaces, page_forms, ceilings_of_versions)
 
 def forms():
     s = Script()

@@ -1,4 +1,5 @@
 # nvdata in its two pages, and both spaces of the TPM.
+from collections import namedtuple
 from flash import *
 
 FIELDS = {'KernelReset': (0, 0x10), 'FirmwareReset': (0, 0x20), 'TryCount': (1, 0x0f), 'DisableDev': (1, 0x40),
@@ -17,33 +18,50 @@ def record(nv, **fields): # the record with these fields
     for field, value in fields.items():
         at, mask = FIELDS[field]
         nv[at] = nv[at] & ~mask | value * low_bit(mask)
-    nv[15] = crc8(nv[:15])
+    nv[-1] = crc8(nv[:-1])
     return bytes(nv)
 
-def is_good_record(nv): return nv[0] & 0xc0 == 0x40 and crc8(nv[:15]) == nv[15]
+# A record has 16 bytes, or 64 and a ceiling for each version.
+def is_good_record(nv): return nv[0] & 0xc0 == {16: 0x40, 64: 0x80}.get(len(nv)) and crc8(nv[:-1]) == nv[-1]
 
-def generation(page):
-    if page[:4] != b'NVPG' or u32(page, 4) > 2 or any(page[8:15]) or page[15] != crc8(page[:15]): return None
-    return u32(page, 4)
+def up(nv): # the record of 64 bytes, without a ceiling
+    return nv if len(nv) == 64 else sealed(bytes([nv[0] & 0x3f | 0x80]) + nv[1:15] + b'\0' + 8 * b'\xff' + bytes(39))
 
-# The current page, its generation, the first cell of its erased tail (255 for none), and the record that stands, if one does.
+def ceilings(nv): return (u32(nv, 16), u32(nv, 20)) if len(nv) == 64 else (0xffffffff, 0xffffffff)
+def with_ceilings(nv, firmware=0xffffffff, kernel=0xffffffff): return sealed(changed(up(nv), 16, p32(firmware) + p32(kernel))[:63])
+
+# A page has so many bytes in a cell, and in front of its first one, by the byte of its form; the head begins with its generation.
+CELLS_OF_FORM = {0: 16, 2: 64}
+
+def page_head(generation, size=16):
+    head = b'NVPG' + p32(generation) + bytes([0 if size == 16 else 2]) + bytes(6)
+    return sealed(head)
+
+def head_in(page): # its generation and the bytes of its cells
+    if page[:4] != b'NVPG' or u32(page, 4) > 2 or page[8] not in CELLS_OF_FORM or any(page[9:15]) or page[15] != crc8(page[:15]): return None
+    return u32(page, 4), CELLS_OF_FORM[page[8]]
+
+# The current page, its generation, the bytes of its cells, the first cell of its erased tail or their number, and the record that
+# stands, if one does.
+NvState = namedtuple('NvState', 'page generation size next record')
+
 def nv_state(flash, area):
     pages = [flash[area:area+4096], flash[area+4096:area+8192]]
-    gens = [generation(page) for page in pages]
-    if gens == [None, None]: return None, 0, 255, None
-    if None in gens: k = 1 if gens[0] is None else 0
-    else: k = 1 if gens[1] == (gens[0] + 1) % 3 else 0
-    cells = [pages[k][16*i:16*i+16] for i in range(1, 256)]
-    tail = 255
-    while tail and cells[tail-1] == b'\xff' * 16: tail -= 1
-    return k, gens[k], tail, next((cell for cell in reversed(cells) if is_good_record(cell)), None)
+    heads = [head_in(page) for page in pages]
+    if heads == [None, None]: return NvState(None, 0, 16, 255, None)
+    if None in heads: k = 1 if heads[0] is None else 0
+    else: k = 1 if heads[1][0] == (heads[0][0] + 1) % 3 else 0
+    generation, size = heads[k]
+    cells = [pages[k][at:at+size] for at in range(size, 4096, size)]
+    tail = len(cells)
+    while tail and cells[tail-1] == b'\xff' * size: tail -= 1
+    return NvState(k, generation, size, tail, next((cell for cell in reversed(cells) if is_good_record(cell)), None))
 
 def with_record(flash, area, nv): # the flash after a record was stored
-    k, gen, tail, _ = nv_state(flash, area)
-    if k is not None and tail < 255: return changed(flash, area + 4096*k + 16 + 16*tail, nv)
-    head = b'NVPG' + p32(0 if k is None else (gen + 1) % 3) + bytes(7)
-    page = (head + bytes([crc8(head)]) + nv).ljust(4096, b'\xff')
-    return changed(flash, area + (4096 if k == 0 else 0), page)
+    k, generation, size, tail, _ = nv_state(flash, area)
+    if k is not None and size == len(nv) and size + size * tail < 4096: return changed(flash, area + 4096*k + size + size*tail, nv)
+    page = page_head(0 if k is None else (generation + 1) % 3, len(nv)).ljust(len(nv), b'\xff') + nv
+    return changed(flash, area + (4096 if k == 0 else 0), page.ljust(4096, b'\xff'))
 
 def firmware_fault(bs):
     if len(bs) != 10: return 1

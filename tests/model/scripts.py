@@ -34,8 +34,8 @@ class Script:
     def kernel(self, version): self.space('kernel', sealed(self.m.kernel[:5] + p32(version) + bytes(3)))
     def gbb(self, flags): self.put32('flash', GBB_FLAGS, flags)
     def nv(self, **fields): # the next record, with other fields
-        _, _, cell, standing = nv_state(self.m.flash, 32768)
-        self.put('flash', CELLS + 16 * cell, record(standing, **fields))
+        found = nv_state(self.m.flash, 32768)
+        self.put('flash', 32768 + 4096 * found.page + found.size * (1 + found.next), record(found.record, **fields))
     def rewritten(self, image, new): # the lines that make an image another one
         spans = []
         found = list(changes(getattr(self.m, image), new))

@@ -105,28 +105,28 @@ fn erase_fairly(flash: &mut MemFlash, page: u32) -> Result<(), Failed>
     flash.erase(page)
 }
 
-// Each row has the form of the full page, the form of the record that is saved, the stop, how many bytes of the chosen call
-// happen, and the tries of the record that stands then.
+// Each row has the form of the full page, the form of the record that is saved, how many calls are whole, how many bytes of
+// the next one happen, and the tries of the record that stands then.
 #[test]
 fn a_switch_is_stopped_at_each_call(rt: HostRuntime) -> Result<(), Fail> {
     let alloc = rt.alloc();
     let (v1, v2) = (NvForm::V1, NvForm::V2);
     let rows = [
-        (v1, v1, 1, 0, 1),
-        (v1, v1, 1, 4096, 1),
-        (v1, v1, 2, 8, 1),
-        (v1, v1, 3, 15, 1),
-        (v1, v1, 3, 16, 3),
-        (v1, v2, 1, 4096, 1),
-        (v1, v2, 2, 48, 1),
-        (v1, v2, 3, 15, 1),
-        (v1, v2, 3, 16, 3),
-        (v2, v1, 2, 16, 1),
-        (v2, v1, 3, 16, 3),
-        (v2, v2, 2, 64, 1),
-        (v2, v2, 3, 16, 3),
+        (v1, v1, 0u8, 0, 1),
+        (v1, v1, 0, 4096, 1),
+        (v1, v1, 1, 8, 1),
+        (v1, v1, 2, 15, 1),
+        (v1, v1, 2, 16, 3),
+        (v1, v2, 0, 4096, 1),
+        (v1, v2, 1, 48, 1),
+        (v1, v2, 2, 15, 1),
+        (v1, v2, 2, 16, 3),
+        (v2, v1, 1, 16, 1),
+        (v2, v1, 2, 16, 3),
+        (v2, v2, 1, 64, 1),
+        (v2, v2, 2, 16, 3),
     ];
-    for (from, to, call, keep, tries) in rows {
+    for (from, to, whole, keep, tries) in rows {
         let full = match from {
             NvForm::V1 => 255,
             NvForm::V2 => 63,
@@ -134,7 +134,7 @@ fn a_switch_is_stopped_at_each_call(rt: HostRuntime) -> Result<(), Fail> {
         let content = flash_of(alloc, from, (&page_head(from, 0), full), (&NO_HEAD, 0))?;
         assert_eq!(rt; content.len(), 12288);
         let mut fuse = Fuse::new(alloc, MemFlash::new(alloc, &content, &[])?);
-        fuse.arm(call, keep)?;
+        fuse.arm(whole as u32 + 1, keep)?;
         assert_eq!(rt; fuse.size(), 12288);
         let mut state = load(&mut fuse, AREA)?;
         assert_eq!(rt; state.nv.get(NvField::TryCount), 1);

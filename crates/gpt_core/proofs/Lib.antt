@@ -12,6 +12,7 @@ pub mod ReadTables
 pub mod PairTests
 pub mod Sources
 pub mod UsedEntries
+pub mod StandingTables
 pub mod TornParts
 pub mod CopyPlaces
 pub mod TableRows

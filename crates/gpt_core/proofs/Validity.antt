@@ -22,7 +22,7 @@ use Rattle.gpt_core.proofs.Units.{length-zeros}
 
 -- ---- a table that was found
 
-chosen : (b : Bool) (one table : PartitionTable) → cond b (Some one) None ≡ Some table → (b ≡ true) × (one ≡ table)
+pub chosen : (b : Bool) (one table : PartitionTable) → cond b (Some one) None ≡ Some table → (b ≡ true) × (one ≡ table)
 chosen true one table e = (refl, cc)
 chosen false one table e = absurd cc
 

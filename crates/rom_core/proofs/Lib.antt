@@ -1,6 +1,7 @@
 pub mod Ranges
 pub mod Rows
 pub mod MapFaults
+pub mod GoodMaps
 pub mod MapLines
 pub mod Heads
 pub mod Pages

@@ -274,6 +274,10 @@ least_below_is zero d entries chosen = record { had = inl refl; most = same_le _
 least_below_is (suc n) d entries chosen =
     least_step n d entries chosen (least_below n d entries chosen) (counts d entries chosen n) refl (least_below_is n d entries chosen)
 
+-- so it is no higher than that of the chosen one
+pub least_most : (d : Drive) (entries : List ℕ) (chosen : ℕ) → least_below 128 d entries chosen ≤ (head_of d entries chosen).version
+least_most d entries chosen = (least_below_is 128 d entries chosen).most
+
 both_least : (d : Drive) (entries : List ℕ) (chosen lowest least : ℕ) → IsChosen d entries chosen → IsLeastVersion d entries chosen lowest → IsLeastBelow 128 d entries chosen least → lowest ≡ least
 both_least d entries chosen lowest least c is so =
     let low = so.lowest is.at is.counts.inside (counts_to d entries chosen is.at c.inside is.counts) in

@@ -2,10 +2,10 @@ mod Ranks
 mod HeadsFound
 mod KernelsFound
 mod OrderFacts
-mod SameDrives
+pub mod SameDrives
 mod FirstSteps
 mod LaterSteps
-mod Partitions
+pub mod Partitions
 mod Marks
 mod WalkSums
 mod WalkChosen
@@ -15,3 +15,4 @@ mod SameChoices
 mod Seeing
 pub mod AskedAgain
 pub mod NoOlder
+pub mod Staying

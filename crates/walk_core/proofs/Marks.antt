@@ -166,7 +166,7 @@ name_ways j k = grind arith
 last_or_before : (p n : ℕ) → p < n + 1 → (n ≡ p) ⊎ (p < n)
 last_or_before p n before = grind (arith, before)
 
-apart_front : (entries : List ℕ) (n k attributes : ℕ) → length entries ≡ 16384 → n < 128 → k < 128 → range (with_attributes entries n attributes) (128 * k) 48 ≡ range entries (128 * k) 48
+pub apart_front : (entries : List ℕ) (n k attributes : ℕ) → length entries ≡ 16384 → n < 128 → k < 128 → range (with_attributes entries n attributes) (128 * k) 48 ≡ range entries (128 * k) 48
 apart_front entries n k attributes size below inside =
     range-spliced_apart entries (128 * n + 48) _ (128 * k) 48 (omega (arith, size, below)) (omega (arith, size, inside)) (ways k n)
 

@@ -1,6 +1,6 @@
 -- The chosen kernel is no older than the stored version, where versions are checked.
-use Rattle.std.proofs.Common.{◌≡◌, ℕ, ◌≤◌, true, not, nat_le, List, Option, Some, None, refl, ap, sym, subst, true≢false}
-use Rattle.std.specs.Prelude.{IsTrue, is_some}
+use Rattle.std.proofs.Common.{◌≡◌, ℕ, ◌≤◌, Bool, true, false, not, nat_le, List, Option, Some, None, refl, ap, sym, subst, true≢false}
+use Rattle.std.specs.Prelude.{IsTrue, is_some, if◌then◌else◌}
 use Rattle.std.proofs.lemmas.Bool.{and_parts}
 use Rattle.wire_core.specs.FirstFault.{first_fault}
 use Rattle.gpt_core.specs.Entries.{first_in}
@@ -14,11 +14,13 @@ use Rattle.kernel_core.specs.KernelTables.{kernel_keyblock_fault, kernel_preambl
 use Rattle.kernel_core.specs.Heads.{HeadQuestion, asked_of_keyblock, asked_of_preamble, first_of, head_fault, head_ok}
 use Rattle.walk_core.specs.Candidates.{is_candidate}
 use Rattle.walk_core.specs.Kernels.{Drive, asked_of_head, has_good_head, body_fault, is_good}
-use Rattle.walk_core.specs.Chosen.{sectors_in, kernel_is_good, head_of, Chosen}
-use Rattle.walk_core.specs.Choice.{chosen_in}
+use Rattle.walk_core.specs.Chosen.{sectors_in, kernel_is_good, head_of, later_count, Chosen}
+use Rattle.walk_core.specs.Choice.{chosen_in, least_below, lowest_in}
 use Rattle.walk_core.specs.Seen.{kernel_at, seen_by, seen_in, kernel_of}
 use Rattle.walk_core.specs.declared.walked.Kernel.{Kernel}
-use Rattle.walk_core.proofs.Choices.{is_chosen}
+use Rattle.walk_core.specs.declared.drive.Seen.{Seen}
+use Rattle.walk_core.specs.declared.drive.Seen.TheVariants as seen
+use Rattle.walk_core.proofs.Choices.{is_chosen, least_most}
 
 -- ---- a good head
 
@@ -60,3 +62,34 @@ seen_by_no_older d (Some table) kernel is checked = chosen_no_older d table.entr
 pub no_older : (d : Drive) (kernel : Kernel) → kernel_of (seen_in d) ≡ Some kernel → IsTrue (versions_are_checked d.rules) → d.rules.stored ≤ kernel.version
 unfolding seen_in
 no_older d kernel is checked = seen_by_no_older d (table_on d.disk.medium) kernel is checked
+
+-- ---- the version to store
+
+lowest_by : (d : Drive) (entries : List ℕ) (k : ℕ) (counted : Bool) → d.rules.stored ≤ (head_of d entries k).version
+    → (if counted then least_below 128 d entries k else d.rules.stored) ≤ (head_of d entries k).version
+lowest_by d entries k true older = least_most d entries k
+lowest_by d entries k false older = older
+
+chosen_no_newer : (d : Drive) (entries : List ℕ) (c : Option ℕ) (kernel : Kernel) → Chosen d entries c → kernel_at d entries c ≡ Some kernel
+    → d.rules.stored ≤ kernel.version → lowest_in d entries c ≤ kernel.version
+chosen_no_newer d entries None kernel chosen is older = absurd (true≢false (sym (ap is_some is)))
+chosen_no_newer d entries (Some k) kernel chosen is older =
+    let same : (head_of d entries k).version ≡ kernel.version = ap version_in is in
+    subst (λ (n : ℕ). lowest_in d entries (Some k) ≤ n) same
+    (lowest_by d entries k (later_count d entries k) (subst (λ (n : ℕ). d.rules.stored ≤ n) (sym same) older))
+
+-- what a walk found to store
+abbrev pub lowest_of : Seen → ℕ
+lowest_of seen.NoTable = 0
+lowest_of (seen.Table walked changed) = walked.lowest
+
+seen_by_no_newer : (d : Drive) (o : Option PartitionTable) (kernel : Kernel) → kernel_of (seen_by d o) ≡ Some kernel → d.rules.stored ≤ kernel.version
+    → lowest_of (seen_by d o) ≤ kernel.version
+seen_by_no_newer d None kernel is older = absurd (true≢false (sym (ap is_some is)))
+seen_by_no_newer d (Some table) kernel is older =
+    chosen_no_newer d table.entries (chosen_in d table.entries) kernel (is_chosen d table.entries) is older
+
+-- it is no newer than the chosen kernel, where that is no older than the stored version
+pub no_newer : (d : Drive) (kernel : Kernel) → kernel_of (seen_in d) ≡ Some kernel → d.rules.stored ≤ kernel.version → lowest_of (seen_in d) ≤ kernel.version
+unfolding seen_in
+no_newer d kernel is older = seen_by_no_newer d (table_on d.disk.medium) kernel is older

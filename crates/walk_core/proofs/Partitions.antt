@@ -13,7 +13,7 @@ pub record LiesOnDisk (sectors first last : ℕ) : Type 0 where
   pub ends : last + 34 ≤ sectors
   pub most : sectors ≤ 4294967296
 
-candidate_used : (entries : List ℕ) (k : ℕ) → is_candidate entries k ≡ true → IsUsed entries k
+pub candidate_used : (entries : List ℕ) (k : ℕ) → is_candidate entries k ≡ true → IsUsed entries k
 candidate_used entries k is zeros =
     let parts = and_parts (pointwise nat_eq (kind_in entries k) kernel_type) (may_boot (attributes_in entries k)) is in
     false≢true (sym (ap (λ (kind : List ℕ). pointwise nat_eq kind kernel_type) zeros) ∙ parts.0)

@@ -1,25 +1,22 @@
 -- Two drives of which disk and hook hold the same, and which are asked with one key and the same rules, tell the same of a table.
-use Rattle.std.proofs.Common.{◌≡◌, ℕ, zero, suc, ◌+◌, min, Bool, not, ◌&&◌, ◌||◌, List, Option, Some, None, refl, ap, subst, ◌∙◌}
+use Rattle.std.proofs.Common.{◌≡◌, ℕ, zero, suc, ◌+◌, min, Bool, not, ◌&&◌, ◌||◌, List, Option, Some, None, refl, ap, ◌∙◌}
 use Rattle.std.specs.Prelude.{nat_eq, if◌then◌else◌}
 use Rattle.board_core.specs.Disk.{DiskState}
 use Rattle.board_core.specs.Hook.{HookState}
-use Rattle.board_core.specs.declared.hook_row.HookRow.{HookRow}
-use Rattle.chain_core.specs.Accepted.{Accepts}
 use Rattle.gpt_core.specs.Entries.{first_in, all_below, with_attributes}
 use Rattle.gpt_core.specs.Format.{PartitionTable}
-use Rattle.kernel_core.specs.Heads.{HeadQuestion, head_ok, head_key, head_preamble, HeadChain}
-use Rattle.kernel_core.specs.KernelBodies.{kernel_body}
+use Rattle.kernel_core.specs.Heads.{HeadQuestion, head_ok}
 use Rattle.kernel_core.specs.declared.head_fault.HeadOk.{HeadOk}
 use Rattle.walk_core.specs.Candidates.{is_candidate}
-use Rattle.walk_core.specs.Kernels.{Drive, head_bytes, asked_of_head}
+use Rattle.walk_core.specs.Kernels.{Drive}
 use Rattle.walk_core.specs.Chosen.{sectors_in, head_is_good, is_good_candidate, head_of, comes_before, later_count_by, later_count}
 use Rattle.walk_core.specs.Choice.{earlier_of, chosen_below, chosen_in, counts, least_below, lowest_in}
 use Rattle.walk_core.specs.Fates.{fate_by, has_bad_head, fate, with_each, table_after}
-use Rattle.walk_core.specs.Walks.{sum_below, is_reached, body_sectors_in, body_sectors_read, sectors_for, body_of, IsKernelOf}
+use Rattle.walk_core.specs.Walks.{sum_below, is_reached, body_sectors_in, body_sectors_read, sectors_for, IsKernelOf}
 use Rattle.walk_core.specs.Seen.{kernel_at, walked_in, table_walked}
 use Rattle.walk_core.specs.declared.walked.Kernel.{Kernel}
 use Rattle.walk_core.specs.declared.walked.Walked.{Walked}
-use Rattle.walk_core.proofs.SameDrives.{drive_now, SameContent, asked_same, good_head_same, good_same, sectors_same}
+use Rattle.walk_core.proofs.SameDrives.{drive_now, SameContent, asked_same, good_head_same, good_same, sectors_same, found_same}
 
 -- ---- one entry
 
@@ -160,32 +157,14 @@ sectors_read_same d entries disk' hook' same =
 
 -- ---- the kernel that was taken
 
-body_of_same : (d : Drive) (entries : List ℕ) (k : ℕ) (disk' : DiskState) (hook' : HookState) → SameContent d disk' hook'
-    → body_of (drive_now d disk' hook') entries k ≡ body_of d entries k
-body_of_same d entries k disk' hook' same =
-    ap (λ (h : HeadOk). kernel_body h (first_in entries k) (sectors_in entries k) disk'.medium) (head_of_same d entries k disk' hook' same)
-    ∙ ap (λ (b : List ℕ). kernel_body (head_of d entries k) (first_in entries k) (sectors_in entries k) (record d.disk.medium { bytes = b })) same.bytes
-
-pub kernel_of_same : (d : Drive) (entries : List ℕ) (k : ℕ) (kernel : Kernel) (handed_out : List ℕ) (disk' : DiskState) (hook' : HookState) → SameContent d disk' hook'
-    → IsKernelOf (drive_now d disk' hook') entries k kernel handed_out → IsKernelOf d entries k kernel handed_out
-kernel_of_same d entries k kernel handed_out disk' hook' same is =
-    let e = drive_now d disk' hook' in
-    let asked : asked_of_head e (first_in entries k) ≡ asked_of_head d (first_in entries k) = asked_same d (first_in entries k) disk' hook' same in
-    let head : head_of e entries k ≡ head_of d entries k = head_of_same d entries k disk' hook' same in
-    let body : body_of e entries k ≡ body_of d entries k = body_of_same d entries k disk' hook' same in
-    record {
-      partition = is.partition;
-      inside = is.inside;
-      candidate = is.candidate;
-      version = λ told. is.version (same.told ∙ told) ∙ ap (λ (h : HeadOk). h.version) head;
-      load_address = λ told. is.load_address (same.told ∙ told) ∙ ap (λ (h : HeadOk). h.load_address) head;
-      body_len = λ told. is.body_len (same.told ∙ told) ∙ ap (λ (h : HeadOk). h.body_len) head;
-      many = is.many;
-      body = λ told. is.body (same.told ∙ told) ∙ body;
-      chain = λ told told'. subst (λ (q : HeadQuestion). HeadChain q) asked (is.chain (same.told ∙ told) (same.hook_told ∙ told'));
-      accepted = λ told told'.
-          subst (λ (q : HeadQuestion). Accepts d.hook.rows (head_key q.vblock) (head_preamble q.vblock).common.body_signature (body_of d entries k)) asked
-          (subst (λ (b : List ℕ). Accepts d.hook.rows (head_key (head_bytes e (first_in entries k))) (head_preamble (head_bytes e (first_in entries k))).common.body_signature b) body
-          (subst (λ (r : List HookRow). Accepts r (head_key (head_bytes e (first_in entries k))) (head_preamble (head_bytes e (first_in entries k))).common.body_signature (body_of e entries k)) same.rows
-          (is.accepted (same.told ∙ told) (same.hook_told ∙ told'))));
-    }
+pub kernel_of_same : (d : Drive) (entries : List ℕ) (k : ℕ) (kernel : Kernel) (handed_out : List ℕ) (disk' : DiskState) (hook' : HookState)
+    → SameContent d disk' hook' → IsKernelOf (drive_now d disk' hook') entries k kernel handed_out → IsKernelOf d entries k kernel handed_out
+kernel_of_same d entries k kernel handed_out disk' hook' same is = record {
+  at = record {
+    inside = is.at.inside;
+    head = is.at.head;
+    is = is.at.is;
+    found = found_same d (first_in entries k) (sectors_in entries k) disk' hook' handed_out is.at.head same is.at.found;
+  };
+  candidate = is.candidate;
+}

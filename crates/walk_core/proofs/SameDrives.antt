@@ -86,7 +86,7 @@ sectors_same d first sectors disk' hook' same =
 
 -- ---- what was found
 
-found_same : (d : Drive) (first sectors : ℕ) (disk' : DiskState) (hook' : HookState) (body : List ℕ) (head : HeadOk) → SameContent d disk' hook'
+pub found_same : (d : Drive) (first sectors : ℕ) (disk' : DiskState) (hook' : HookState) (body : List ℕ) (head : HeadOk) → SameContent d disk' hook'
     → FoundKernel (drive_now d disk' hook') first sectors body head → FoundKernel d first sectors body head
 found_same d first sectors disk' hook' body head same found =
     let e = drive_now d disk' hook' in

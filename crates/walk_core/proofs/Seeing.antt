@@ -27,7 +27,7 @@ use Rattle.kernel_core.specs.KernelBodies.{LooksAtDisk}
 use Rattle.walk_core.specs.Kernels.{Drive}
 use Rattle.walk_core.specs.Choice.{chosen_in, lowest_in}
 use Rattle.walk_core.specs.Fates.{SameButAttributes, table_after}
-use Rattle.walk_core.specs.Walks.{sum_below, sectors_for, entry_of, IsKernelOf, Walks}
+use Rattle.walk_core.specs.Walks.{sum_below, sectors_for, entry_of, kernel_for, IsKernelOf, Walks}
 use Rattle.walk_core.specs.Seen.{kernel_at, walked_in, table_walked, says_same, both_say, copies_agree, is_changed, seen_by, seen_in, Sees}
 use Rattle.walk_core.specs.declared.walked.Kernel.{Kernel}
 use Rattle.walk_core.specs.declared.walked.Walked.{Walked}
@@ -143,19 +143,11 @@ changed_by true true a b to from = changed_true (bytes_eq a b) a b refl from
 
 -- ---- the walk as a function
 
-kernel_is : (kernel : Kernel) (p v l n : ℕ) → kernel.partition ≡ p → kernel.version ≡ v → kernel.load_address ≡ l → kernel.body_len ≡ n
-    → ◌≡◌ {A = Kernel} kernel (record { partition = p; version = v; load_address = l; body_len = n })
-kernel_is kernel p v l n a b c d =
-    ap (λ (x : ℕ). let k : Kernel = record { partition = x; version = kernel.version; load_address = kernel.load_address; body_len = kernel.body_len } in k) a
-    ∙ ap (λ (x : ℕ). let k : Kernel = record { partition = p; version = x; load_address = kernel.load_address; body_len = kernel.body_len } in k) b
-    ∙ ap (λ (x : ℕ). let k : Kernel = record { partition = p; version = v; load_address = x; body_len = kernel.body_len } in k) c
-    ∙ ap (λ (x : ℕ). let k : Kernel = record { partition = p; version = v; load_address = l; body_len = x } in k) d
-
 taken_is : (e : Drive) (entries : List ℕ) (handed_out : List ℕ) (o : Option Kernel) → IsTrue e.disk.medium.told → IfSome o (λ (kernel : Kernel). IsKernelOf e entries (kernel.partition - 1) kernel handed_out)
     → o ≡ kernel_at e entries (entry_of o)
 taken_is e entries handed_out None told is = refl
 taken_is e entries handed_out (Some kernel) told is =
-    ap (λ (k : Kernel). Some k) (kernel_is kernel _ _ _ _ is.partition (is.version told) (is.load_address told) (is.body_len told))
+    ap (λ (k : Kernel). Some k) (is.at.is ∙ ap (kernel_for (kernel.partition - 1)) (is.at.found.ok told))
 
 walked_of : (walked : Walked) (chosen : Option Kernel) (lowest : ℕ) → walked.chosen ≡ chosen → walked.lowest ≡ lowest → ◌≡◌ {A = Walked} walked (record { chosen = chosen; lowest = lowest })
 walked_of walked chosen lowest a b =

@@ -5,21 +5,21 @@ use Rattle.board_core.specs.Disk.{DiskState}
 use Rattle.board_core.specs.Hook.{HookState}
 use Rattle.gpt_core.specs.Entries.{first_in}
 use Rattle.gpt_core.specs.Room.{RoomView}
-use Rattle.chain_core.specs.Accepted.{Asked, Accepts}
+use Rattle.chain_core.specs.Accepted.{Asked}
 use Rattle.chain_core.specs.Bodies.{store_failed, hook_failed}
 use Rattle.chain_core.specs.declared.fault.Failure.{Failure}
 use Rattle.chain_core.proofs.Said.{asked_then}
-use Rattle.kernel_core.specs.Heads.{HeadQuestion, head_key, head_preamble, head_ok}
-use Rattle.kernel_core.specs.KernelBodies.{LooksAtDisk, kernel_body}
+use Rattle.kernel_core.specs.Heads.{HeadQuestion, head_ok}
+use Rattle.kernel_core.specs.KernelBodies.{LooksAtDisk}
 use Rattle.kernel_core.specs.declared.head_fault.HeadOk.{HeadOk}
 use Rattle.kernel_core.proofs.DiskLooks.{looks_then, looks_more}
 use Rattle.walk_core.specs.Candidates.{is_candidate, AreInOrder}
-use Rattle.walk_core.specs.Kernels.{Drive, head_bytes}
+use Rattle.walk_core.specs.Kernels.{Drive}
 use Rattle.walk_core.specs.Examined.{FoundKernel}
 use Rattle.walk_core.specs.Chosen.{sectors_in, head_is_good, head_of, Chosen, IsLowest, later_count_by}
 use Rattle.walk_core.specs.Fates.{with_each, fate_by, fate, room_having, HasFates, SameButAttributes}
-use Rattle.walk_core.specs.Walks.{sum_below, sectors_for, most_sectors_for, IsKernelOf, Walks}
-use Rattle.walk_core.specs.Steps.{entry_at, entry_in_order, sectors_of_rank, most_sectors_of_rank, FindsFirst, Knows, LooksLater, none_later, mark_of, kernel_for}
+use Rattle.walk_core.specs.Walks.{sum_below, sectors_for, most_sectors_for, kernel_for, IsKernelOf, Walks}
+use Rattle.walk_core.specs.Steps.{entry_at, entry_in_order, sectors_of_rank, most_sectors_of_rank, FindsFirst, Knows, LooksLater, none_later, mark_of}
 use Rattle.walk_core.specs.declared.first.Taken.{Taken}
 use Rattle.walk_core.specs.declared.later.Later.{Later}
 use Rattle.walk_core.proofs.OrderFacts.{ordered}
@@ -163,21 +163,7 @@ back k = omega arith
 kernel_found : (d : Drive) (entries : List ℕ) (k : ℕ) (body : List ℕ) (head : HeadOk) → k < 128 → is_candidate entries k ≡ true
     → FoundKernel d (first_in entries k) (sectors_in entries k) body head → IsKernelOf d entries k (kernel_for k head) body
 kernel_found d entries k body head below candidate found =
-    let first = first_in entries k in
-    let sectors = sectors_in entries k in
-    record {
-      partition = refl;
-      inside = omega (arith, below);
-      candidate = candidate;
-      version = λ told. ap (λ (h : HeadOk). h.version) (found.ok told);
-      load_address = λ told. ap (λ (h : HeadOk). h.load_address) (found.ok told);
-      body_len = λ told. ap (λ (h : HeadOk). h.body_len) (found.ok told);
-      many = found.many;
-      body = λ told. found.body told ∙ ap (λ (h : HeadOk). kernel_body h first sectors d.disk.medium) (found.ok told);
-      chain = found.chain;
-      accepted = λ told told'. subst (λ (h : HeadOk). Accepts d.hook.rows (head_key (head_bytes d first)) (head_preamble (head_bytes d first)).common.body_signature
-          (kernel_body h first sectors d.disk.medium)) (found.ok told) (found.accepted told told');
-    }
+    record { at = record { inside = below; head = head; is = refl; found = found }; candidate = candidate }
 
 pub one_walked : (d : Drive) (old new : RoomView) (ranks : List ℕ) (disk' disk'' : DiskState) (hook' hook'' : HookState) (body : List ℕ) (taken : Taken) (later : Later) → AreInOrder old.table.entries ranks
     → FindsFirst d old.table.entries ranks disk' hook' body (Ok (Some taken))

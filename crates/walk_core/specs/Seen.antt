@@ -18,7 +18,7 @@ use Rattle.walk_core.specs.Kernels.{Drive}
 use Rattle.walk_core.specs.Chosen.{head_of}
 use Rattle.walk_core.specs.Choice.{chosen_in, lowest_in}
 use Rattle.walk_core.specs.Fates.{table_after}
-use Rattle.walk_core.specs.Walks.{sum_below, sectors_for, IsKernelOf}
+use Rattle.walk_core.specs.Walks.{sum_below, sectors_for, kernel_for, IsKernelOf}
 use Rattle.walk_core.specs.declared.walked.Kernel.{Kernel}
 use Rattle.walk_core.specs.declared.walked.Walked.{Walked}
 use Rattle.walk_core.specs.declared.drive.Seen.{Seen}
@@ -29,12 +29,7 @@ use Rattle.walk_core.specs.declared.drive.Seen.TheVariants as seen
 -- what is read of the chosen entry
 abbrev pub kernel_at : Drive → List ℕ → (chosen : Option ℕ) → Option Kernel
 kernel_at d entries None = None
-kernel_at d entries (Some k) = Some (record {
-  partition = k + 1;
-  version = (head_of d entries k).version;
-  load_address = (head_of d entries k).load_address;
-  body_len = (head_of d entries k).body_len;
-})
+kernel_at d entries (Some k) = Some (kernel_for k (head_of d entries k))
 
 abbrev pub walked_in : Drive → List ℕ → Walked
 walked_in d entries = record { chosen = kernel_at d entries (chosen_in d entries); lowest = lowest_in d entries (chosen_in d entries) }

@@ -21,7 +21,6 @@ use Rattle.walk_core.specs.Fates.{fate_by, marked_entries, room_having, HasFates
 use Rattle.walk_core.specs.Walks.{body_sectors_in, body_sectors_read}
 use Rattle.walk_core.specs.declared.first.Taken.{Taken}
 use Rattle.walk_core.specs.declared.later.Later.{Later}
-use Rattle.walk_core.specs.declared.walked.Kernel.{Kernel}
 
 -- the entry of a rank
 abbrev pub entry_at : ℕ → ℕ
@@ -155,9 +154,3 @@ pub record MarksEntries (later_is_bad : ℕ → Bool) (chosen : Option ℕ) (old
   pub marked : new ≡ room_having old (marked_entries later_is_bad old.table.entries chosen)
   pub each : HasFates new.table.entries (fate_by later_is_bad old.table.entries chosen)
   pub kept : SameButAttributes old new
-
--- ---- the answer
-
--- the kernel of a head, of which entry k is
-abbrev pub kernel_for : (k : ℕ) → HeadOk → Kernel
-kernel_for k head = record { partition = k + 1; version = head.version; load_address = head.load_address; body_len = head.body_len }

@@ -1,21 +1,21 @@
 -- The walk over the kernels of a drive.
 -- Source: `vb2api_load_kernel` of vboot_reference (firmware/2lib/2load_kernel.c).
-use Rattle.std.specs.Prelude.{◌≡◌, ℕ, zero, suc, ◌+◌, ◌-◌, ◌≤◌, Bool, not, ◌&&◌, IsTrue}
-use Rattle.std.specs.Prelude.{List, length, Option, Some, None, IfSome, Result, IfOk, OnErr, if◌then◌else◌}
+use Rattle.std.specs.Prelude.{◌≡◌, ℕ, zero, suc, ◌+◌, ◌-◌, ◌<◌, ◌≤◌, Bool, not, ◌&&◌, IsTrue}
+use Rattle.std.specs.Prelude.{List, Option, Some, None, IfSome, Result, IfOk, OnErr, if◌then◌else◌}
 use Rattle.board_core.specs.Disk.{DiskState}
 use Rattle.board_core.specs.Hook.{HookState}
 use Rattle.gpt_core.specs.Entries.{first_in, all_below}
 use Rattle.gpt_core.specs.Room.{RoomView}
-use Rattle.chain_core.specs.Accepted.{Accepts, Asked}
+use Rattle.chain_core.specs.Accepted.{Asked}
 use Rattle.chain_core.specs.Bodies.{store_failed, hook_failed}
 use Rattle.chain_core.specs.declared.fault.Failure.{Failure}
-use Rattle.kernel_core.specs.Heads.{head_key, head_preamble, HeadChain}
-use Rattle.kernel_core.specs.KernelBodies.{LooksAtDisk, kernel_body}
+use Rattle.kernel_core.specs.KernelBodies.{LooksAtDisk}
 use Rattle.walk_core.specs.Candidates.{is_candidate}
-use Rattle.walk_core.specs.Kernels.{Drive, head_bytes, asked_of_head}
-use Rattle.walk_core.specs.Examined.{body_sectors}
-use Rattle.walk_core.specs.Chosen.{sectors_in, head_is_good, is_good_candidate, head_of, comes_before, Chosen, IsLowest}
+use Rattle.walk_core.specs.Kernels.{Drive}
+use Rattle.walk_core.specs.Examined.{FoundKernel, body_sectors}
+use Rattle.walk_core.specs.Chosen.{sectors_in, head_is_good, is_good_candidate, comes_before, Chosen, IsLowest}
 use Rattle.walk_core.specs.Fates.{fate, table_after, HasFates, SameButAttributes}
+use Rattle.kernel_core.specs.declared.head_fault.HeadOk.{HeadOk}
 use Rattle.walk_core.specs.declared.walked.Kernel.{Kernel}
 use Rattle.walk_core.specs.declared.walked.Walked.{Walked}
 
@@ -53,28 +53,22 @@ abbrev pub entry_of : Option Kernel → Option ℕ
 entry_of (Some kernel) = Some (kernel.partition - 1)
 entry_of None = None
 
--- the body in the partition of an entry
-abbrev pub body_of : Drive → List ℕ → ℕ → List ℕ
-body_of d entries k = kernel_body (head_of d entries k) (first_in entries k) (sectors_in entries k) d.disk.medium
+-- the kernel of a head, of which entry k is
+abbrev pub kernel_for : (k : ℕ) → HeadOk → Kernel
+kernel_for k head = record { partition = k + 1; version = head.version; load_address = head.load_address; body_len = head.body_len }
 
--- The kernel that was taken is that of an entry.
+-- The kernel is the one in the partition of an entry, by its head, its body and all its signatures. Whether the entry may be booted is not
+-- asked.
+pub record IsKernelAt (d : Drive) (entries : List ℕ) (k : ℕ) (kernel : Kernel) (handed_out : List ℕ) : Type 0 where
+  pub inside : k < 128
+  pub head : HeadOk
+  pub is : kernel ≡ kernel_for k head
+  pub found : FoundKernel d (first_in entries k) (sectors_in entries k) handed_out head
+
+-- The kernel that was taken is that of a candidate.
 pub record IsKernelOf (d : Drive) (entries : List ℕ) (k : ℕ) (kernel : Kernel) (handed_out : List ℕ) : Type 0 where
-  -- the index of the entry
-  pub partition : kernel.partition ≡ k + 1
-  pub inside : k + 1 ≤ 128
+  pub at : IsKernelAt d entries k kernel handed_out
   pub candidate : IsTrue (is_candidate entries k)
-  -- what is read of its head
-  pub version : IsTrue d.disk.medium.told → kernel.version ≡ (head_of d entries k).version
-  pub load_address : IsTrue d.disk.medium.told → kernel.load_address ≡ (head_of d entries k).load_address
-  pub body_len : IsTrue d.disk.medium.told → kernel.body_len ≡ (head_of d entries k).body_len
-  -- the body has that length, and is the one in the partition
-  pub many : length handed_out ≡ kernel.body_len
-  pub body : IsTrue d.disk.medium.told → handed_out ≡ body_of d entries k
-  -- the signatures of keyblock, preamble and body are accepted
-  pub chain : IsTrue d.disk.medium.told → IsTrue d.hook.told → HeadChain (asked_of_head d (first_in entries k))
-  pub accepted : IsTrue d.disk.medium.told → IsTrue d.hook.told → Accepts d.hook.rows (head_key (head_bytes d (first_in entries k)))
-      (head_preamble (head_bytes d (first_in entries k))).common.body_signature
-      (body_of d entries k)
 
 -- ---- the call
 

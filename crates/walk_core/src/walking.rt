@@ -1,8 +1,8 @@
 // The walk over the kernels of a drive.
 ghost use Rattle.std.specs.Prelude.{◌≡◌, length};
 ghost use Rattle.gpt_core.specs.Format.{IsValidTable};
-ghost use Rattle.walk_core.specs.Steps.{entry_at, kernel_for};
-ghost use Rattle.walk_core.specs.Walks.{Walks};
+ghost use Rattle.walk_core.specs.Steps.{entry_at};
+ghost use Rattle.walk_core.specs.Walks.{kernel_for, Walks};
 
 use crate::candidates::{CANDIDATES, candidates_in_order};
 use crate::fates::mark;

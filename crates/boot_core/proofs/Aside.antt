@@ -6,8 +6,9 @@ use Rattle.board_core.specs.Flash.{range}
 use Rattle.rom_core.specs.declared.fault.MapFault.{MapFault}
 use Rattle.rom_core.specs.declared.fault.MapFault.TheVariants as faults
 use Rattle.rom_core.specs.Map.{count_of, head_at, is_map_at, is_map_head, rows_in, StandingMap, MapQuestion, standing_map, areas_in, map_lines, area_lines}
-use Rattle.rom_core.specs.MapFits.{AreApart}
+use Rattle.rom_core.specs.MapFits.{AreApart, IsApart}
 use Rattle.rom_core.specs.Decoded.{map_from, flash_map}
+use Rattle.rom_core.proofs.GoodMaps.{good_map}
 use Rattle.nvstore_core.specs.Saving.{SameBut}
 use Rattle.nvstore_core.proofs.Frames.{range_before, range_behind}
 use Rattle.boot_core.specs.Beside.{asked, StaysBeside}
@@ -47,7 +48,8 @@ same_map size at old new stands standing =
     ∙ ap (λ (s : StandingMap). map_from (first_fault map_lines (asked size at old)) (areas_in s.rows)) standing
 
 pub stays_beside : StaysBeside
-stays_beside size at map old new apart same =
+stays_beside size at map old new is same =
+    let apart : IsApart at (count_of (head_at old at)) map = (good_map (asked size at old) map is).1 in
     let from : ℕ = map.nvram.at in
     let head : head_at new at ≡ head_at old at = part_beside from 8192 at (56 + 42 * count_of (head_at old at)) at 56 old new apart.rows (omega arith) (omega arith) same in
     let rows : range new (at + 56) (42 * count_of (head_at old at)) ≡ range old (at + 56) (42 * count_of (head_at old at)) =

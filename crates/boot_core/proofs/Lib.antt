@@ -15,6 +15,7 @@ pub mod OneTable
 pub mod OneForm
 pub mod Versions
 pub mod Planned
+pub mod Standing
 pub mod Whole
 pub mod Taken
 pub mod Aside

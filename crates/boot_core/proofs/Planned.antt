@@ -1,5 +1,5 @@
 -- The plan of a boot is that of its board.
-use Rattle.std.proofs.Common.{◌≡◌, ℕ, ◌+◌, ◌-◌, ◌≤◌, Bool, true, false, not, ◌&&◌, List, Option, Some, None, Result, Ok, Err, refl, sym, ap, subst, ◌∙◌, arith}
+use Rattle.std.proofs.Common.{◌≡◌, ℕ, ◌+◌, ◌-◌, ◌≤◌, min, max, nat_lt, Bool, true, false, not, ◌&&◌, List, Option, Some, None, Result, Ok, Err, refl, sym, ap, subst, ◌∙◌, arith}
 use Rattle.std.specs.Prelude.{if◌then◌else◌, IsTrue, IfOk, IfSome}
 use Rattle.std.specs.Str.{bytes_eq}
 use Rattle.std.proofs.lemmas.Bool.{false≢true}
@@ -9,7 +9,12 @@ use Rattle.board_core.specs.World.{World, drive_on}
 use Rattle.fwsel_core.specs.declared.boot_mode.Mode.{Mode}
 use Rattle.fwsel_core.specs.declared.boot_mode.Mode.TheVariants.{Manual, Broken}
 use Rattle.fwsel_core.specs.Mode.{mode_of}
-use Rattle.fwsel_core.specs.Selection.{selected_slot}
+use Rattle.fwsel_core.specs.Selection.{selected_slot, selection_of}
+use Rattle.fwsel_core.specs.declared.selection.Selection.{Selection}
+use Rattle.record_core.specs.declared.space.SpaceFault.{SpaceFault}
+use Rattle.record_core.specs.declared.nv.Ceiling.TheVariants as ceiling
+use Rattle.record_core.specs.Nv.{ceiling_of}
+use Rattle.record_core.specs.Space.{firmware_versions, kernel_versions}
 use Rattle.key_core.specs.declared.key.PackedKey.{PackedKey}
 use Rattle.gpt_core.specs.Format.{PartitionTable}
 use Rattle.gpt_core.specs.Room.{RoomView, CanCommit}
@@ -26,7 +31,7 @@ use Rattle.walk_core.specs.declared.walked.Kernel.{Kernel}
 use Rattle.walk_core.specs.declared.drive.Seen.{Seen}
 use Rattle.walk_core.specs.declared.drive.Seen.TheVariants as seen
 use Rattle.walk_core.proofs.AskedAgain.{asked_by, SameRows, seen_again, sectors_again, is_seen_again, holds_again}
-use Rattle.walk_core.proofs.NoOlder.{no_older}
+use Rattle.walk_core.proofs.NoOlder.{no_older, lowest_of, no_newer}
 use Rattle.boot_core.specs.declared.switches.Switches.{Switches}
 use Rattle.boot_core.specs.declared.found.Found.{Found}
 use Rattle.board_core.specs.declared.device.Drive.{Drive}
@@ -34,17 +39,17 @@ use Rattle.board_core.specs.declared.device.Drive.TheVariants.{Disk, Stick}
 use Rattle.boot_core.specs.declared.outcome.Hand.{Hand}
 use Rattle.boot_core.specs.declared.plan.Plan.{Plan}
 use Rattle.boot_core.specs.declared.room.Room.{Room}
-use Rattle.boot_core.specs.Spaces.{RaisesVersion, RaisesKernel}
+use Rattle.boot_core.specs.Spaces.{capped, firmware_rise, has_succeeded, firmware_stored_after, kernel_rise, kernel_stored, kernel_stored_after, booted_record, is_trying, RaisesVersion, RaisesKernel}
 use Rattle.boot_core.specs.Facts.{facts_of}
-use Rattle.boot_core.specs.Slots.{slot_asked, HoldsFirmware, taken_firmware}
-use Rattle.boot_core.specs.Drives.{drive_of, rules_of, recovery_of, drive_asked, seen_on, Look, asked_at, table_by, table_after_look}
+use Rattle.boot_core.specs.Slots.{stored_of, checks_versions, slot_asked, HoldsFirmware, taken_firmware}
+use Rattle.boot_core.specs.Drives.{drive_of, stored_kernel_of, rules_of, recovery_of, drive_asked, seen_on, Look, asked_at, table_by, table_after_look}
 use Rattle.boot_core.specs.Plan.{boot_mode_of, hand_of, stick_plan_of, disk_plan_of, drive_plan_of, slot_look, selected_answer, slot_plan_of, look_by, reboot_plan_of}
 use Rattle.boot_core.specs.Plan.{enables_dev, enabling_plan_of, recovery_hand_of, recovery_outcome, recovery_plan_of, recovery_look, manual_plan_of, missing_subcode}
-use Rattle.boot_core.specs.Plan.{IsOfOneForm, screen_plan_of, plan_in, look_in, plan_of, look_of}
+use Rattle.boot_core.specs.Plan.{IsOfOneForm, TellsStored, screen_plan_of, plan_in, look_in, plan_of, look_of}
 use Rattle.boot_core.specs.Hands.{kernel_in, HoldsKernel, HoldsHand, HoldsOutcome, handed_by}
 use Rattle.board_core.specs.Drive.{same_drive}
 use Rattle.boot_core.proofs.OneForm.{one_form_of_drive}
-use Rattle.boot_core.specs.Steps.{SameDrives, IsTold, Looks, LooksAtDrive, ChecksSlot, IsFromDisk, ReadsAtMost, Plans, PlansSlot, PlansRecovery, PlansBoot}
+use Rattle.boot_core.specs.Steps.{WalkedOn, SameDrives, IsTold, Looks, LooksAtDrive, ChecksSlot, IsFromDisk, ReadsAtMost, Plans, PlansSlot, PlansRecovery, PlansBoot}
 use Rattle.boot_core.proofs.Looking.{looks_none, looks_then, looks_as, looks_err}
 use Rattle.boot_core.proofs.Verified.{ok_is}
 
@@ -182,12 +187,53 @@ holds_kernel d (seen.Table walked changed) kernel hand body is taken now same =
       no_older = λ checked. subst (λ (k : Kernel). d.rules.stored ≤ k.version) (sym same) (no_older d kernel (ap kernel_of (sym now) ∙ is) checked);
     }
 
+-- ---- no older than what is stored after the boot
+
+max_most : (a b v : ℕ) → a ≤ v → b ≤ v → max a b ≤ v
+max_most a b v low high = grind (arith, low, high)
+
+min_first : (a b v : ℕ) → a ≤ v → min a b ≤ v
+min_first a b v low = grind (arith, low)
+
+capped_most : (stored rise ceiling version : ℕ) → stored ≤ version → rise ≤ version → capped stored rise ceiling ≤ version
+capped_most stored rise ceiling version older newer = max_most stored (min rise ceiling) version older (min_first rise ceiling version newer)
+
+either_most : (b : Bool) (x y v : ℕ) → x ≤ v → y ≤ v → (if b then x else y) ≤ v
+either_most true x y v first second = first
+either_most false x y v first second = second
+
+firmware_most_of : (space : Result (List ℕ) SpaceFault) (nv : List ℕ) (selection : Selection) (version : ℕ) → stored_of space ≤ version
+    → IfSome (firmware_stored_after space nv selection version) (λ stored. stored ≤ version)
+firmware_most_of (Err fault) nv selection version older = tt
+firmware_most_of (Ok space) nv selection version older =
+    let same : version ≤ version = omega arith in
+    capped_most (firmware_versions space) (firmware_rise selection (firmware_versions space) version) (ceiling_of nv ceiling.Firmware) version older
+    (either_most (nat_lt (firmware_versions space) version && has_succeeded selection) version (firmware_versions space) version same older)
+
+firmware_most : (found : Found) (w : World) (selection : Selection) (version : ℕ) {len : ℕ} {bytes : List ℕ}
+    → HoldsFirmware (slot_asked found (selected_slot found.state.nv) w) version len bytes → IsTrue (checks_versions found.gbb)
+    → IfSome (firmware_stored_after found.firmware found.state.nv selection version) (λ stored. stored ≤ version)
+unfolding slot_asked
+firmware_most found w selection version holds checked = firmware_most_of found.firmware found.state.nv selection version (holds.no_older checked)
+
+kernel_most : (space : Result (List ℕ) SpaceFault) (version : ℕ) → stored_kernel_of space ≤ version → IfSome (kernel_stored space) (λ stored. stored ≤ version)
+kernel_most (Err fault) version older = tt
+kernel_most (Ok space) version older = older
+
+raised_most : (space : Result (List ℕ) SpaceFault) (nv : List ℕ) (on_trial : Bool) (lowest version : ℕ) → stored_kernel_of space ≤ version → lowest ≤ version
+    → IfSome (kernel_stored_after space nv on_trial lowest) (λ stored. stored ≤ version)
+raised_most (Err fault) nv on_trial lowest version older newer = tt
+raised_most (Ok space) nv on_trial lowest version older newer =
+    capped_most (kernel_versions space) (kernel_rise on_trial (kernel_versions space) lowest) (ceiling_of nv ceiling.Kernel) version older
+    (either_most (nat_lt (kernel_versions space) lowest && not on_trial) lowest (kernel_versions space) version newer older)
+
 -- the firmware of the slot, and this kernel
 holds_hand : (sw : Switches) (found : Found) (developer : Bool) (old : World) (room : Room) (ok : SlotOk) (what : Seen) (kernel : Kernel) (stored : Option ℕ) → let on = drive_of sw found developer in
     let slot = selected_slot found.state.nv in let d = drive_asked on ok.subkey (rules_of sw found (boot_mode_of developer)) old in HoldsFirmware (slot_asked found slot old) ok.version ok.body_len room.slot
     → room.has_firmware ≡ true → ok ≡ slot_ok (slot_asked found slot old) → kernel_of what ≡ Some kernel → IsSeen d room.kernel what → what ≡ seen_in d
+    → (d.rules.stored ≤ kernel.version → lowest_of what ≤ kernel.version → IfSome stored (λ s. s ≤ kernel.version))
     → HoldsHand sw found old (handed_by room) (hand_of found developer ok on kernel stored)
-holds_hand sw found developer old room ok what kernel stored firmware taken whole is seen now =
+holds_hand sw found developer old room ok what kernel stored firmware taken whole is seen now most =
     let on = drive_of sw found developer in
     let slot = selected_slot found.state.nv in
     let rules = rules_of sw found (boot_mode_of developer) in
@@ -196,6 +242,13 @@ holds_hand sw found developer old room ok what kernel stored firmware taken whol
       firmware = subst (λ (b : Bool). HoldsFirmware (slot_asked found slot old) ok.version ok.body_len (taken_firmware b room.slot)) (sym taken) firmware;
       kernel = subst (λ (k : PackedKey). HoldsKernel (drive_asked on k rules old) hand room.kernel) (ap (λ (o : SlotOk). o.subkey) whole)
           (holds_kernel (drive_asked on ok.subkey rules old) what kernel hand room.kernel is seen now refl);
+      firmware_no_older = λ checked some. firmware_most found old (selection_of found.state.nv) ok.version firmware checked;
+      kernel_no_older = λ checked.
+          let d = drive_asked on ok.subkey rules old in
+          let here : kernel_of (seen_in d) ≡ Some kernel = ap kernel_of (sym now) ∙ is in
+          let older = no_older d kernel here checked in
+          let newer : lowest_of what ≤ kernel.version = subst (λ (s : Seen). lowest_of s ≤ kernel.version) (sym now) (no_newer d kernel here older) in
+          most older newer;
     }
 
 -- What is known where the slot is good, and its drive was looked at.
@@ -207,26 +260,31 @@ record KnowsBoth (sw : Switches) (found : Found) (developer : Bool) (old : World
   now : what ≡ seen_on (drive_of sw found developer) ok.subkey (rules_of sw found (boot_mode_of developer)) old
 
 holds_on : (sw : Switches) (found : Found) (developer : Bool) (old : World) (room : Room) (ok : SlotOk) (what : Seen) (on : Drive) (kernel : Kernel) (stored : Option ℕ) → KnowsBoth sw found developer old room ok what
-    → on ≡ drive_of sw found developer → kernel_of what ≡ Some kernel → HoldsHand sw found old (handed_by room) (hand_of found developer ok on kernel stored)
-holds_on sw found developer old room ok what on kernel stored h on_is is =
+    → on ≡ drive_of sw found developer → kernel_of what ≡ Some kernel
+    → (stored_kernel_of found.kernel ≤ kernel.version → lowest_of what ≤ kernel.version → IfSome stored (λ s. s ≤ kernel.version))
+    → HoldsHand sw found old (handed_by room) (hand_of found developer ok on kernel stored)
+holds_on sw found developer old room ok what on kernel stored h on_is is most =
     subst (λ (dr : Drive). HoldsHand sw found old (handed_by room) (hand_of found developer ok dr kernel stored)) (sym on_is)
-    (holds_hand sw found developer old room ok what kernel stored h.firmware h.taken h.whole is h.kernel h.now)
+    (holds_hand sw found developer old room ok what kernel stored h.firmware h.taken h.whole is h.kernel h.now most)
 
 holds_stick : (sw : Switches) (found : Found) (developer : Bool) (old : World) (room : Room) (ok : SlotOk) (what : Seen) (o : Option Kernel) → KnowsBoth sw found developer old room ok what
     → Stick ≡ drive_of sw found developer → kernel_of what ≡ o → HoldsOutcome sw found old (handed_by room) (stick_plan_of found developer ok (missing_subcode what) o).outcome
-holds_stick sw found developer old room ok what (Some kernel) h on_is is = holds_on sw found developer old room ok what Stick kernel _ h on_is is
+holds_stick sw found developer old room ok what (Some kernel) h on_is is = holds_on sw found developer old room ok what Stick kernel _ h on_is is (λ older newer. kernel_most found.kernel kernel.version older)
 holds_stick sw found developer old room ok what None h on_is is = tt
 
 holds_disk : (sw : Switches) (found : Found) (developer : Bool) (old : World) (room : Room) (ok : SlotOk) (what : Seen) (o : Option Kernel) (lowest : ℕ) (changed : Bool) → KnowsBoth sw found developer old room ok what
-    → Disk ≡ drive_of sw found developer → kernel_of what ≡ o → HoldsOutcome sw found old (handed_by room) (disk_plan_of found developer ok o lowest changed).outcome
-holds_disk sw found developer old room ok what (Some kernel) lowest changed h on_is is = holds_on sw found developer old room ok what Disk kernel _ h on_is is
-holds_disk sw found developer old room ok what None lowest changed h on_is is = tt
+    → Disk ≡ drive_of sw found developer → kernel_of what ≡ o → lowest_of what ≡ lowest
+    → HoldsOutcome sw found old (handed_by room) (disk_plan_of found developer ok o lowest changed).outcome
+holds_disk sw found developer old room ok what (Some kernel) lowest changed h on_is is low =
+    holds_on sw found developer old room ok what Disk kernel _ h on_is is (λ older newer.
+    raised_most found.kernel found.state.nv (is_trying (booted_record found.state.nv)) lowest kernel.version older (subst (λ (n : ℕ). n ≤ kernel.version) low newer))
+holds_disk sw found developer old room ok what None lowest changed h on_is is low = tt
 
 holds_plan : (sw : Switches) (found : Found) (developer : Bool) (old : World) (room : Room) (ok : SlotOk) (what : Seen) (on : Drive) → KnowsBoth sw found developer old room ok what → on ≡ drive_of sw found developer
     → HoldsOutcome sw found old (handed_by room) (drive_plan_of found developer ok on what).outcome
 holds_plan sw found developer old room ok what Stick h on_is = holds_stick sw found developer old room ok what (kernel_of what) h on_is refl
 holds_plan sw found developer old room ok seen.NoTable Disk h on_is = tt
-holds_plan sw found developer old room ok (seen.Table walked changed) Disk h on_is = holds_disk sw found developer old room ok (seen.Table walked changed) walked.chosen walked.lowest changed h on_is refl
+holds_plan sw found developer old room ok (seen.Table walked changed) Disk h on_is = holds_disk sw found developer old room ok (seen.Table walked changed) walked.chosen walked.lowest changed h on_is refl refl
 
 -- ---- the plan of a mode that boots a slot
 
@@ -249,6 +307,9 @@ locks_same Stick key rules mid new room body result h = ap (λ (w : World). w.tp
 disk_ready : (on : Drive) (new : World) (room : RoomView) → on ≡ Disk → CanCommit (drive_on on new) room → CanCommit new.disk room
 disk_ready on new room is ready = subst (λ (dr : Drive). CanCommit (drive_on dr new) room) is ready
 
+walked_disk : (on : Drive) (key : PackedKey) (rules : KernelRules) (w : World) (room : RoomView) → on ≡ Disk → HoldsWalked (drive_asked on key rules w) room → WalkedOn w room
+walked_disk on key rules w room is holds = (key, rules, subst (λ (dr : Drive). HoldsWalked (drive_asked dr key rules w) room) is holds)
+
 held_table : (look : Look) (w : World) (room : RoomView) → HoldsWalked (asked_at look w) room → room.table ≡ table_after_look (Some look) w
 held_table look w room holds = holds.2 ∙ sym (ap (table_by (asked_at look w)) holds.1)
 
@@ -264,8 +325,10 @@ plan_failed sw found developer old new room fault h = record {
   alike = tt;
   ready = tt;
   table = λ told. tt;
+  walked = λ told. tt;
   agree = λ told. tt;
   holds = λ told. tt;
+  stored = tt;
   reads = λ told. no_more (look_by sw found developer (selected_answer found old)) old new h.drives;
 }
 
@@ -283,8 +346,10 @@ plan_bad sw found developer old new room fault plan h is version =
       alike = subst IsOfOneForm (sym is) tt;
       ready = λ wanted. absurd (false≢true (sym unwritten ∙ wanted));
       table = λ told wanted. absurd (false≢true (sym unwritten ∙ wanted));
+      walked = λ told wanted. absurd (false≢true (sym unwritten ∙ wanted));
       agree = λ told from none. absurd (subst (λ (p : Plan). IsFromDisk p.outcome) is from);
       holds = λ told. subst (λ (p : Plan). HoldsOutcome sw found old (handed_by room) p.outcome) (sym is) tt;
+      stored = subst (TellsStored found) (sym is) tt;
       reads = λ told. no_more (look_by sw found developer (selected_answer found old)) old new h.drives;
     }
 
@@ -319,8 +384,10 @@ plan_unseen sw found developer old mid new room slot ok fault h k =
       alike = tt;
       ready = tt;
       table = λ told. tt;
+      walked = λ told. tt;
       agree = λ told. tt;
       holds = λ told. tt;
+      stored = tt;
       reads = λ told.
           reads_slot sw found developer old mid new room.gpt room.kernel ok (Err fault) h.drives (same_rows on ok.subkey rules old mid first h.looks) k told (h.whole told.flash told.hook);
     }
@@ -328,8 +395,8 @@ plan_unseen sw found developer old mid new room slot ok fault h k =
 pub plan_good : (sw : Switches) (found : Found) (developer : Bool) (old mid new : World) (room : Room) (ok : SlotOk) (what : Seen) (plan : Plan) → ChecksSlot found (selected_slot found.state.nv) old mid room.slot (Ok (Ok ok))
     → LooksAtDrive (drive_of sw found developer) ok.subkey (rules_of sw found (boot_mode_of developer)) mid new room.gpt room.kernel (Ok what) → room.has_firmware ≡ true
     → plan ≡ drive_plan_of found developer ok (drive_of sw found developer) what → IfSome plan.firmware (RaisesVersion found.firmware) → IfSome plan.kernel (RaisesKernel found.kernel)
-    → PlansSlot sw found developer old new room (Ok plan)
-plan_good sw found developer old mid new room ok what plan h k taken is version kernel =
+    → TellsStored found plan → PlansSlot sw found developer old new room (Ok plan)
+plan_good sw found developer old mid new room ok what plan h k taken is version kernel stored =
     let on = drive_of sw found developer in
     let rules = rules_of sw found (boot_mode_of developer) in
     let first : Result (Result SlotOk SlotFault) Fault = Ok (Ok ok) in
@@ -348,6 +415,7 @@ plan_good sw found developer old mid new room ok what plan h k taken is version 
       table = λ told wanted.
           held_table (slot_look sw found developer ok) old room.gpt (from.holds told (wants wanted).1)
           ∙ ap (λ (look : Option Look). table_after_look look old) (answer_look sw found developer old ok (h.whole told.flash told.hook));
+      walked = λ told wanted. walked_disk on ok.subkey rules old room.gpt (wants wanted).0 (from.holds told (wants wanted).1);
       agree = λ told out none.
           agrees found developer ok on ok.subkey rules old what (subst (λ (p : Plan). IsFromDisk p.outcome) is out) (sym (ap (λ (p : Plan). p.table) is) ∙ none) (from.seen told);
       holds = λ told.
@@ -359,6 +427,7 @@ plan_good sw found developer old mid new room ok what plan h k taken is version 
             kernel = from.kernel told;
             now = from.seen told;
           }) refl);
+      stored = stored;
       reads = λ told. reads_slot sw found developer old mid new room.gpt room.kernel ok (Ok what) h.drives rows k told (h.whole told.flash told.hook);
     }
 
@@ -391,8 +460,10 @@ plan_enabling sw found w room plan enables is version =
       alike = subst IsOfOneForm (sym is) tt;
       ready = λ wanted. absurd (false≢true (sym unwritten ∙ wanted));
       table = λ told wanted. absurd (false≢true (sym unwritten ∙ wanted));
+      walked = λ told wanted. absurd (false≢true (sym unwritten ∙ wanted));
       agree = λ told from none. absurd (subst (λ (p : Plan). IsFromDisk p.outcome) is from);
       holds = λ told. subst (λ (p : Plan). HoldsOutcome sw found w (handed_by room) p.outcome) (sym is) tt;
+      stored = subst (TellsStored found) (sym is) tt;
       reads = λ told. no_more (look_in Manual sw found w) w w (none_called w);
     }
 
@@ -417,8 +488,10 @@ plan_unsought sw found old new room fault enables k = record {
   alike = tt;
   ready = tt;
   table = λ told. tt;
+  walked = λ told. tt;
   agree = λ told. tt;
   holds = λ told. tt;
+  stored = tt;
   reads = λ told. reads_stick sw found old new room.gpt room.kernel (Err fault) enables k told;
 }
 
@@ -433,12 +506,16 @@ holds_recovery sw found w room what None none is seen now = tt
 holds_recovery sw found w room what (Some kernel) none is seen now = record {
   firmware = record { version = refl; many = refl; bytes = ap (λ (b : Bool). taken_firmware b room.slot) none };
   kernel = holds_kernel (drive_asked Stick (recovery_of found.gbb) (rules_of sw found boot_mode.Recovery) w) what kernel (recovery_hand_of found kernel) room.kernel is seen now refl;
+  firmware_no_older = λ checked some. absurd (false≢true some);
+  kernel_no_older = λ checked.
+      let d = drive_asked Stick (recovery_of found.gbb) (rules_of sw found boot_mode.Recovery) w in
+      kernel_most found.kernel kernel.version (no_older d kernel (ap kernel_of (sym now) ∙ is) checked);
 }
 
 pub plan_recovered : (sw : Switches) (found : Found) (old new : World) (room : Room) (what : Seen) (plan : Plan) → enables_dev sw found.firmware ≡ false
     → LooksAtDrive Stick (recovery_of found.gbb) (rules_of sw found boot_mode.Recovery) old new room.gpt room.kernel (Ok what) → room.has_firmware ≡ false → plan ≡ recovery_plan_of found what
-    → PlansRecovery sw found old new room (Ok plan)
-plan_recovered sw found old new room what plan enables k none is =
+    → TellsStored found plan → PlansRecovery sw found old new room (Ok plan)
+plan_recovered sw found old new room what plan enables k none is stored =
     let key = recovery_of found.gbb in
     let rules = rules_of sw found boot_mode.Recovery in
     let unwritten : plan.table ≡ false = ap (λ (p : Plan). p.table) is in
@@ -453,10 +530,12 @@ plan_recovered sw found old new room what plan enables k none is =
       alike = subst IsOfOneForm (sym is) tt;
       ready = λ wanted. absurd (false≢true (sym unwritten ∙ wanted));
       table = λ told wanted. absurd (false≢true (sym unwritten ∙ wanted));
+      walked = λ told wanted. absurd (false≢true (sym unwritten ∙ wanted));
       agree = λ told out others. absurd (not_from_disk found (missing_subcode what) (kernel_of what) (subst (λ (p : Plan). IsFromDisk p.outcome) is out));
       holds = λ told.
           subst (λ (p : Plan). HoldsOutcome sw found old (handed_by room) p.outcome) (sym is)
           (holds_recovery sw found old room what (kernel_of what) none refl (from.kernel told) (from.seen told));
+      stored = stored;
       reads = λ told. reads_stick sw found old new room.gpt room.kernel (Ok what) enables k told;
     }
 
@@ -481,7 +560,9 @@ plan_broken sw found reason subcode w room plan is =
       alike = subst IsOfOneForm (sym is) tt;
       ready = λ wanted. absurd (false≢true (sym unwritten ∙ wanted));
       table = λ told wanted. absurd (false≢true (sym unwritten ∙ wanted));
+      walked = λ told wanted. absurd (false≢true (sym unwritten ∙ wanted));
       agree = λ told from none. absurd (subst (λ (p : Plan). IsFromDisk p.outcome) is from);
       holds = λ told. subst (λ (p : Plan). HoldsOutcome sw found w (handed_by room) p.outcome) (sym is) tt;
+      stored = subst (TellsStored found) (sym is) tt;
       reads = λ told. no_more (look_in (Broken reason subcode) sw found w) w w (none_called w);
     }

@@ -26,6 +26,7 @@ use Rattle.rom_core.specs.Decoded.{flash_map}
 use Rattle.nvstore_core.specs.declared.state.NvState.{NvState}
 use Rattle.nvstore_core.specs.Saving.{KeepsWritten}
 use Rattle.gpt_core.specs.Format.{PartitionTable}
+use Rattle.gpt_core.specs.Room.{RoomView}
 use Rattle.gpt_core.specs.declared.side.Side.TheVariants.{Primary, Backup}
 use Rattle.gpt_core.specs.Tables.{copy_table, table_on, BothHold}
 use Rattle.chain_core.specs.Slot.{SlotQuestion, slot_ok}
@@ -34,7 +35,7 @@ use Rattle.chain_core.specs.declared.slot_fault.SlotOk.{SlotOk}
 use Rattle.kernel_core.specs.declared.rules.BootMode.TheVariants as boot_mode
 use Rattle.kernel_core.specs.declared.rules.KernelRules.{KernelRules}
 use Rattle.walk_core.specs.Kernels as kernels
-use Rattle.walk_core.specs.Seen.{says_same, both_say, copies_agree, seen_in, sectors_of_walk}
+use Rattle.walk_core.specs.Seen.{says_same, both_say, copies_agree, seen_in, sectors_of_walk, HoldsWalked}
 use Rattle.boot_core.specs.declared.switches.Switches.{Switches}
 use Rattle.boot_core.specs.declared.found.Found.{Found}
 use Rattle.board_core.specs.declared.device.Drive.{Drive}
@@ -45,16 +46,16 @@ use Rattle.boot_core.specs.declared.outcome.Outcome.TheVariants as outcome
 use Rattle.boot_core.specs.declared.plan.Plan.{Plan}
 use Rattle.boot_core.specs.declared.room.Room.{Room}
 use Rattle.boot_core.specs.Changes.{Change, Firmware, Record, Kernel, listed, tabled, spaces_with}
-use Rattle.boot_core.specs.Carries.{IsSettled, SameDisk, CarriesOut}
+use Rattle.boot_core.specs.Carries.{Targets, IsSettled, SameDisk, FrameFlash, Frame, IsMade, CarriesOut}
 use Rattle.boot_core.specs.Spaces.{RaisesVersion, RaisesKernel}
 use Rattle.boot_core.specs.Facts.{found_by, found_of, facts_of}
 use Rattle.boot_core.specs.Slots.{vblock_of, main_of, root_of, stored_of, checks_versions, slot_asked, slot_answer, HoldsFirmware}
 use Rattle.boot_core.specs.Drives.{drive_of, rules_of, recovery_of, drive_asked, Look, table_by, table_after_look}
 use Rattle.boot_core.specs.Plan.{first_changes, later_changes, changes_of, slot_plan_of, drive_plan_of, selected_answer, recovery_plan_of, enabling_plan_of, enables_dev, boot_mode_of, look_by, plan_in, plan_of, look_in, look_of}
-use Rattle.boot_core.specs.Hands.{Handed, handed_by, kernel_key, HoldsSlot, HoldsKernel, HoldsHand, HoldsOutcome}
+use Rattle.boot_core.specs.Hands.{Handed, handed_by, kernel_key, HoldsSlot, HoldsKernel, HoldsHand, HoldsOutcome, StandsOutcome}
 use Rattle.board_core.specs.Drive.{same_drive}
-use Rattle.boot_core.specs.Steps.{SameDrives, IsTold, Looks, ReadsBoard, IsFromDisk, most_read, ReadsAtMost, PlansBoot, to_of, WritesTable, Finishes}
-use Rattle.boot_core.specs.Boots.{BootPlan, boot_plan_of, bad_flash_plan, boot_plan_by, boot_plan, look_found, writes_table, AtFault, NeverFall, HandsOver, GoesOn, Boots}
+use Rattle.boot_core.specs.Steps.{SameDrives, IsTold, HasSizes, WalkedOn, Looks, ReadsBoard, IsFromDisk, most_read, ReadsAtMost, PlansBoot, to_of, WritesTable, Finishes}
+use Rattle.boot_core.specs.Boots.{BootPlan, boot_plan_of, bad_flash_plan, boot_plan_by, boot_plan, look_found, writes_table, AtFault, NeverFall, HandsOver, StandsOver, GoesOn, Boots}
 use Rattle.boot_core.proofs.Looking.{looks_then, looks_err}
 use Rattle.boot_core.proofs.Carried.{carried_then, carried_as, carried_cut}
 use Rattle.boot_core.proofs.Making.{looks_carry, keeps_same}
@@ -62,6 +63,7 @@ use Rattle.boot_core.proofs.Findings.{found_same}
 use Rattle.boot_core.proofs.OneTable.{tables, tables-append, at_most_one, no_firmware, no_record, no_kernel, one_tabled}
 use Rattle.boot_core.proofs.Versions.{never_same, RaiseAll, never_after, never_all, raise_then}
 use Rattle.boot_core.proofs.Prefix.{at_fault}
+use Rattle.boot_core.proofs.Standing.{KeepsDrives, KeepsSpaces, outcome_stands, drives_kept}
 
 -- ---- one table at most is written
 
@@ -142,15 +144,16 @@ kept_same : (area : ℕ) (state : NvState) (old new : World) → new.flash.mediu
 kept_same area state old new same = subst (λ (m : FlashMedium). KeepsWritten area state old.flash.medium.bytes m.bytes) (sym same) (keeps_same area state old.flash.medium.bytes)
 
 -- a fault before any change
-boots_looked : (sw : Switches) (old new : World) (handed : Handed) (fault : Fault) → IsSettled old → Looks {T = Outcome} old new (Err fault) → fault.done ≡ 0
+boots_looked : (sw : Switches) (old new : World) (handed : Handed) (fault : Fault) → HasSizes old → IsSettled old → Looks {T = Outcome} old new (Err fault) → fault.done ≡ 0
     → (IsTold old → ReadsAtMost (look_found sw old (found_of old)) old new) → Boots sw old new handed (Err fault)
-boots_looked sw old new handed fault settled looks none reads =
+boots_looked sw old new handed fault sized settled looks none reads =
     let plan : BootPlan = boot_plan sw old in
     let looked : CarriesOut {T = Outcome} 0 plan.to plan.state [] old new (Err fault) = looks_carry 0 plan.to plan.state old new (Err fault) settled looks none in
     let carried : CarriesOut {T = Outcome} 0 plan.to plan.state plan.changes old new (Err fault) = carried_cut 0 plan.to plan.state [] plan.changes old new fault looked in
     record {
       plan = plan;
       planned = λ told. refl;
+      sized = sized;
       counts = carried.counts;
       frame = carried.frame;
       kept = λ told. kept_same plan.to.area plan.state old new looks.medium;
@@ -169,13 +172,13 @@ no_reads : (look : Option Look) (old new : World) → SameDrives old new → Rea
 no_reads look old new same Disk = let is = ap (λ (s : DiskState). s.medium.sectors_read) same.disk in omega (arith, is)
 no_reads look old new same Stick = let is = ap (λ (s : DiskState). s.medium.sectors_read) same.stick in omega (arith, is)
 
-pub boots_unread : (sw : Switches) (old new : World) (handed : Handed) (fault : Fault) → IsSettled old → ReadsBoard old new (Err fault) → Boots sw old new handed (Err fault)
-boots_unread sw old new handed fault settled read =
-    boots_looked sw old new handed fault settled (looks_err old new fault read.looks) read.none_done (λ told. no_reads (look_found sw old (found_of old)) old new read.drives)
+pub boots_unread : (sw : Switches) (old new : World) (handed : Handed) (fault : Fault) → HasSizes old → IsSettled old → ReadsBoard old new (Err fault) → Boots sw old new handed (Err fault)
+boots_unread sw old new handed fault sized settled read =
+    boots_looked sw old new handed fault sized settled (looks_err old new fault read.looks) read.none_done (λ told. no_reads (look_found sw old (found_of old)) old new read.drives)
 
-pub boots_bad_flash : (sw : Switches) (old new : World) (handed : Handed) (fault : MapFault) → IsSettled old → ReadsBoard old new (Ok (Err fault)) → Boots sw old new handed (Ok (outcome.BadFlash fault))
+pub boots_bad_flash : (sw : Switches) (old new : World) (handed : Handed) (fault : MapFault) → HasSizes old → IsSettled old → ReadsBoard old new (Ok (Err fault)) → Boots sw old new handed (Ok (outcome.BadFlash fault))
 unfolding boot_plan
-boots_bad_flash sw old new handed fault settled read =
+boots_bad_flash sw old new handed fault sized settled read =
     let plan : BootPlan = bad_flash_plan fault in
     let first : Result Found MapFault = Err fault in
     let carried : CarriesOut {T = Outcome} 0 plan.to plan.state [] old new (Ok (outcome.BadFlash fault)) =
@@ -183,6 +186,7 @@ boots_bad_flash sw old new handed fault settled read =
     record {
       plan = plan;
       planned = λ told. ap (boot_plan_by sw old) (read.whole told.flash told.tpm);
+      sized = sized;
       counts = carried.counts;
       frame = carried.frame;
       kept = λ told. kept_same plan.to.area plan.state old new read.looks.medium;
@@ -191,7 +195,7 @@ boots_bad_flash sw old new handed fault settled read =
       locks = read.unlocked;
       fault = tt;
       written = λ told. λ is. absurd (false≢true is);
-      goes_on = λ told. record { hands = tt; agree = λ from. absurd from };
+      goes_on = λ told. record { hands = tt; stands = tt; agree = λ from. absurd from };
       versions = λ told. never_same old.tpm.spaces new.tpm.spaces read.looks.spaces;
       reads = λ told. no_reads (look_found sw old (found_of old)) old new read.drives;
     }
@@ -300,6 +304,8 @@ hand_same sw found a b handed hand same holds = record {
   kernel = subst (λ (d : kernels.Drive). HoldsKernel d hand handed.kernel)
       (ap (λ (k : PackedKey). drive_asked hand.drive k (rules_of sw found hand.mode) b) (key_same found hand.slot a b same)
       ∙ drive_same hand.drive (kernel_key found a hand.slot) (rules_of sw found hand.mode) a b same) holds.kernel;
+  firmware_no_older = holds.firmware_no_older;
+  kernel_no_older = holds.kernel_no_older;
 }
 
 -- what is known of the outcome of a plan is known of the outcome of the boot
@@ -415,12 +421,12 @@ reads_last look wanted table old last new answer reads writes Stick =
     omega (arith, more, same)
 
 -- a fault while the plan was made
-pub boots_unplanned : (sw : Switches) (old mid new : World) (room : Room) (found : Found) (fault : Fault) → IsSettled old → ReadsBoard old mid (Ok (Ok found)) → PlansBoot sw found mid new room (Err fault)
+pub boots_unplanned : (sw : Switches) (old mid new : World) (room : Room) (found : Found) (fault : Fault) → HasSizes old → IsSettled old → ReadsBoard old mid (Ok (Ok found)) → PlansBoot sw found mid new room (Err fault)
     → Boots sw old new (handed_by room) (Err fault)
-boots_unplanned sw old mid new room found fault settled read h =
+boots_unplanned sw old mid new room found fault sized settled read h =
     let first : Result Found MapFault = Ok found in
     let same = read_boards old mid (Ok first) read in
-    boots_looked sw old new (handed_by room) fault settled (looks_then old mid new first (Err fault) read.looks (looks_err mid new fault h.looks)) h.none_done
+    boots_looked sw old new (handed_by room) fault sized settled (looks_then old mid new first (Err fault) read.looks (looks_err mid new fault h.looks)) h.none_done
     (λ told. reads_back sw old mid new found same (sym (read.whole told.flash told.tpm)) (h.reads (told_again old mid (Ok first) read told)))
 
 -- the table that is written, or that of the plan
@@ -437,14 +443,53 @@ table_planned true room planned same = same refl
 table_planned false room planned same = refl
 
 goes_on_answer : (sw : Switches) (old new : World) (handed : Handed) (answer : Result Outcome Fault) → IfOk answer (HandsOver sw old handed)
-    → IfOk answer (λ outcome. IsFromDisk outcome → IsTrue (copies_agree new.disk.medium)) → IfOk answer (GoesOn sw old new handed)
-goes_on_answer sw old new handed (Ok outcome) hands agree = record { hands = hands; agree = agree }
-goes_on_answer sw old new handed (Err fault) hands agree = tt
+    → IfOk answer (StandsOver sw old new handed) → IfOk answer (λ outcome. IsFromDisk outcome → IsTrue (copies_agree new.disk.medium)) → IfOk answer (GoesOn sw old new handed)
+goes_on_answer sw old new handed (Ok outcome) hands stands agree = record { hands = hands; stands = stands; agree = agree }
+goes_on_answer sw old new handed (Err fault) hands stands agree = tt
 
-pub boots_planned : (sw : Switches) (old mid last new : World) (room : Room) (found : Found) (plan : Plan) (answer : Result Outcome Fault) → IsSettled old → ReadsBoard old mid (Ok (Ok found)) → PlansBoot sw found mid last room (Ok plan)
+-- ---- and stands in the new world
+
+stands_over : (sw : Switches) (old new : World) (found : Found) (handed : Handed) (o : Outcome) → found_of old ≡ Ok found → StandsOutcome sw found new handed o → StandsOver sw old new handed o
+stands_over sw old new found handed (outcome.HandOver hand) is stands = record { found = found; found_is = is; stands = stands }
+stands_over sw old new found handed outcome.DevEnabled is stands = tt
+stands_over sw old new found handed (outcome.Reboot reason subcode requested) is stands = tt
+stands_over sw old new found handed (outcome.Screen reason subcode) is stands = tt
+stands_over sw old new found handed (outcome.BadFlash fault) is stands = tt
+
+-- what is known of the outcome of a plan, as of the board before
+held_of : (sw : Switches) (old mid : World) (found : Found) (handed : Handed) (o : Outcome) → SameBoards old mid → HoldsOutcome sw found mid handed o → HoldsOutcome sw found old handed o
+held_of sw old mid found handed (outcome.HandOver hand) same holds = hand_same sw found old mid handed hand same holds
+held_of sw old mid found handed outcome.DevEnabled same holds = tt
+held_of sw old mid found handed (outcome.Reboot reason subcode requested) same holds = tt
+held_of sw old mid found handed (outcome.Screen reason subcode) same holds = tt
+held_of sw old mid found handed (outcome.BadFlash fault) same holds = tt
+
+walked_back : (old mid : World) (room : RoomView) → SameBoards old mid → WalkedOn mid room → WalkedOn old room
+walked_back old mid room same walked =
+    (walked.0, walked.1, subst (λ (d : kernels.Drive). HoldsWalked d room) (drive_same Disk walked.0 walked.1 old mid same) walked.2)
+
+stands_answer : (sw : Switches) (old mid last new : World) (room : Room) (found : Found) (plan : Plan) (to : Targets) (answer : Result Outcome Fault) → HasSizes old → IsTold old
+    → ReadsBoard old mid (Ok (Ok found)) → PlansBoot sw found mid last room (Ok plan) → to.area ≡ found.map.nvram.at → (plan.table ≡ true → to.table ≡ room.gpt.table)
+    → Frame to.area old new → OnOk answer (IsMade to (changes_of plan) old new) → IfOk answer (λ (o : Outcome). o ≡ plan.outcome)
+    → IfOk answer (StandsOver sw old new (handed_by room))
+stands_answer sw old mid last new room found plan to (Err fault) sized told read plans at table frame made out = tt
+stands_answer sw old mid last new room found plan to (Ok o) sized told read plans at table frame made out =
+    let first : Result Found MapFault = Ok found in
+    let same : SameBoards old mid = read_boards old mid (Ok first) read in
+    let again = told_again old mid (Ok first) read told in
+    let is : found_of old ≡ Ok found = sym (read.whole told.flash told.tpm) in
+    let handed = handed_by room in
+    let drives : KeepsDrives old new = drives_kept plan to room.gpt old new sized told frame made (λ wanted. walked_back old mid room.gpt same (plans.walked again wanted)) table in
+    let spaces : KeepsSpaces found plan old new = record { firmware = read.found.firmware told.tpm; kernel = read.found.kernel told.tpm; now = made.spaces told.tpm } in
+    let stands : StandsOutcome sw found new handed plan.outcome =
+    outcome_stands sw found plan old new handed plan.outcome is told.flash
+    (subst (λ (n : ℕ). FrameFlash n old.flash.medium new.flash.medium) at frame.flash) drives spaces plans.stored (held_of sw old mid found handed plan.outcome same (plans.holds again)) in
+    subst (StandsOver sw old new handed) (sym out) (stands_over sw old new found handed plan.outcome is stands)
+
+pub boots_planned : (sw : Switches) (old mid last new : World) (room : Room) (found : Found) (plan : Plan) (answer : Result Outcome Fault) → HasSizes old → IsSettled old → ReadsBoard old mid (Ok (Ok found)) → PlansBoot sw found mid last room (Ok plan)
     → ((table : PartitionTable) → (plan.table ≡ true → table ≡ room.gpt.table) → Finishes table found plan last new answer) → Boots sw old new (handed_by room) answer
 unfolding boot_plan
-boots_planned sw old mid last new room found plan answer settled read plans finishes =
+boots_planned sw old mid last new room found plan answer sized settled read plans finishes =
     let planned : PartitionTable = table_after_look (look_of sw found mid) mid in
     let table : PartitionTable = table_in plan.table room.gpt.table planned in
     let h : Finishes table found plan last new answer = finishes table (table_written plan.table room.gpt.table planned) in
@@ -465,6 +510,7 @@ boots_planned sw old mid last new room found plan answer settled read plans fini
           ap (λ (t : PartitionTable). boot_plan_of found plan t) (table_planned plan.table room.gpt.table planned (plans.table (again told)) ∙ table_same sw found old mid same)
           ∙ ap (λ (p : Plan). boot_plan_of found p (table_after_look (look_of sw found old) old)) (plans.whole (again told) ∙ plan_of_same sw found old mid same)
           ∙ ap (boot_plan_by sw old) (read.whole told.flash told.tpm);
+      sized = sized;
       counts = carried.counts;
       frame = carried.frame;
       kept = λ told. subst (λ (m : FlashMedium). KeepsWritten found.map.nvram.at found.state m.bytes new.flash.medium.bytes) looks.medium (h.makes.kept (subst (λ (m : FlashMedium). IsTrue m.told) (sym looks.medium) told));
@@ -476,6 +522,7 @@ boots_planned sw old mid last new room found plan answer settled read plans fini
       goes_on = λ told.
           goes_on_answer sw old new (handed_by room) answer
           (hands_answer sw old mid found (handed_by room) plan.outcome answer same (sym (read.whole told.flash told.tpm)) (plans.holds (again told)) h.outcome)
+          (stands_answer sw old mid last new room found plan whole.to answer sized told read plans refl (table_written plan.table room.gpt.table planned) carried.frame carried.made h.outcome)
           (agree_answer plan table mid last new answer plans.looks.same_disk (again told).disk h.makes.drives (plans.agree (again told)) h.outcome);
       versions = λ told. never_falls found plan table old new answer (keeps told) told carried;
       reads = λ told.

@@ -1,12 +1,19 @@
--- What storing a nvdata record leaves: the map of the flash, and each area that a boot reads.
-use Rattle.std.specs.Prelude.{◌≡◌, ℕ, List}
+-- What the changes of a boot leave: the map of the flash, each area that a boot reads, and the partitions of a disk.
+use Rattle.std.specs.Prelude.{◌≡◌, ℕ, ◌*◌, ◌<◌, List, length, Option, Some, Result, Ok}
+use Rattle.board_core.specs.Disk.{DiskMedium}
 use Rattle.board_core.specs.Flash.{range}
 use Rattle.rom_core.specs.declared.area.Area.{Area}
 use Rattle.rom_core.specs.declared.map.Map.{Map}
-use Rattle.rom_core.specs.Map.{count_of, head_at, MapQuestion}
-use Rattle.rom_core.specs.MapFits.{IsApart}
+use Rattle.rom_core.specs.declared.fault.MapFault.{MapFault}
+use Rattle.rom_core.specs.Map.{MapQuestion}
 use Rattle.rom_core.specs.Decoded.{flash_map}
 use Rattle.nvstore_core.specs.Saving.{SameButPages}
+use Rattle.gpt_core.specs.Commits.{SameButCopies}
+use Rattle.gpt_core.specs.Entries.{first_in, IsUsed}
+use Rattle.gpt_core.specs.Format.{PartitionTable}
+use Rattle.gpt_core.specs.Tables.{table_on}
+use Rattle.kernel_core.specs.KernelBodies.{partition_bytes}
+use Rattle.walk_core.specs.Chosen.{sectors_in}
 
 -- an area holds what it held
 abbrev pub SameArea : Area → List ℕ → List ℕ → Type 0
@@ -24,8 +31,16 @@ pub record SameBeside (size at : ℕ) (map : Map) (old new : List ℕ) : Type 0 
   pub vblock_b : SameArea map.vblock_b old new
   pub main_b : SameArea map.main_b old new
 
--- two flashes that are the same but for the pages of nvdata, which lie apart from the map and the other areas
+-- two flashes that are the same but for the pages of nvdata, of which one has this map, without a fault
 abbrev pub StaysBeside : Type 0
 StaysBeside =
-    (size at : ℕ) (map : Map) (old new : List ℕ) → IsApart at (count_of (head_at old at)) map → SameButPages map.nvram.at old new
+    (size at : ℕ) (map : Map) (old new : List ℕ) → flash_map (asked size at old) ≡ Ok map → SameButPages map.nvram.at old new
     → SameBeside size at map old new
+
+-- two disks that are the same but for the copies of the table: the partition of each used entry of the table that stands holds what it held
+abbrev pub StaysBetween : Type 0
+StaysBetween =
+    (old new : DiskMedium) (table : PartitionTable) (k : ℕ) → length old.bytes ≡ old.sectors * 512 → table_on old ≡ Some table → k < 128
+    → IsUsed table.entries k → SameButCopies old.sectors old.bytes new.bytes
+    → partition_bytes (first_in table.entries k) (sectors_in table.entries k) new
+    ≡ partition_bytes (first_in table.entries k) (sectors_in table.entries k) old

@@ -36,8 +36,8 @@ use Rattle.boot_core.specs.Facts.{found_of, facts_of}
 use Rattle.boot_core.specs.Slots.{slot_asked}
 use Rattle.boot_core.specs.Drives.{Look, asked_at, no_table, table_after_look}
 use Rattle.boot_core.specs.Plan.{slot_look, plan_of, look_of, changes_of}
-use Rattle.boot_core.specs.Hands.{Handed, HoldsHand}
-use Rattle.boot_core.specs.Steps.{IsTold, IsFromDisk, ReadsAtMost, to_of, locks_at}
+use Rattle.boot_core.specs.Hands.{Handed, HoldsHand, StandsHand}
+use Rattle.boot_core.specs.Steps.{IsTold, HasSizes, IsFromDisk, ReadsAtMost, to_of, locks_at}
 
 -- ---- the plan
 
@@ -185,9 +185,21 @@ abbrev pub HandsOver : Switches → World → Handed → Outcome → Type 0
 HandsOver sw w handed (outcome.HandOver hand) = Hands sw w handed hand
 HandsOver sw w handed other = Unit {0}
 
--- Where the boot goes on, what is handed over has its chain, and from the disk both copies of its table agree then.
+-- What was handed over stands in the new world, too, by what was found in the old one.
+pub record Stands (sw : Switches) (old new : World) (handed : Handed) (hand : Hand) : Type 0 where
+  pub found : Found
+  pub found_is : found_of old ≡ Ok found
+  pub stands : StandsHand sw found new handed hand
+
+abbrev pub StandsOver : Switches → World → World → Handed → Outcome → Type 0
+StandsOver sw old new handed (outcome.HandOver hand) = Stands sw old new handed hand
+StandsOver sw old new handed other = Unit {0}
+
+-- Where the boot goes on, what is handed over has its chain, in the old world and in the new one, and from the disk both copies of
+-- its table agree then.
 pub record GoesOn (sw : Switches) (old new : World) (handed : Handed) (outcome : Outcome) : Type 0 where
   pub hands : HandsOver sw old handed outcome
+  pub stands : StandsOver sw old new handed outcome
   pub agree : IsFromDisk outcome → IsTrue (copies_agree new.disk.medium)
 
 -- ---- a boot
@@ -197,6 +209,8 @@ pub record Boots (sw : Switches) (old new : World) (handed : Handed) (answer : R
   -- its plan is that of the board, where the devices tell what they hold
   pub plan : BootPlan
   pub planned : IsTold old → plan ≡ boot_plan sw old
+  -- what its devices tell has the length that their sizes say
+  pub sized : HasSizes old
   -- the changing calls are those of its changes, and the one device that failed counted it
   pub counts : CountsBoard (λ on. calls_on on plan.state plan.changes) old new answer
   pub frame : Frame plan.to.area old new

@@ -1,5 +1,6 @@
 -- What a boot hands over: what is known of the bytes of its firmware and of its kernel.
-use Rattle.std.specs.Prelude.{◌≡◌, ℕ, ◌-◌, ◌≤◌, IsTrue, List, [], Option, Some, None}
+use Rattle.std.specs.Prelude.{◌≡◌, ℕ, ◌-◌, ◌≤◌, IsTrue, IsSome, IfSome, List, [], Option, Some, None}
+use Rattle.record_core.specs.Space.{stored_firmware_version, stored_kernel_version}
 use Rattle.fwsel_core.specs.declared.slot.Slot.{Slot}
 use Rattle.board_core.specs.World.{World}
 use Rattle.key_core.specs.declared.key.PackedKey.{PackedKey}
@@ -8,7 +9,7 @@ use Rattle.gpt_core.specs.Tables.{table_on}
 use Rattle.chain_core.specs.Slot.{slot_ok}
 use Rattle.kernel_core.specs.Rules.{versions_are_checked}
 use Rattle.walk_core.specs.Kernels as kernels
-use Rattle.walk_core.specs.Walks.{IsKernelOf}
+use Rattle.walk_core.specs.Walks.{IsKernelAt, IsKernelOf}
 use Rattle.walk_core.specs.declared.walked.Kernel.{Kernel}
 use Rattle.boot_core.specs.declared.switches.Switches.{Switches}
 use Rattle.boot_core.specs.declared.found.Found.{Found}
@@ -16,7 +17,7 @@ use Rattle.boot_core.specs.declared.outcome.Hand.{Hand}
 use Rattle.boot_core.specs.declared.outcome.Outcome.{Outcome}
 use Rattle.boot_core.specs.declared.outcome.Outcome.TheVariants as outcome
 use Rattle.boot_core.specs.declared.room.Room.{Room}
-use Rattle.boot_core.specs.Slots.{slot_asked, HoldsFirmware, taken_firmware}
+use Rattle.boot_core.specs.Slots.{checks_versions, slot_asked, HoldsFirmware, taken_firmware}
 use Rattle.boot_core.specs.Drives.{rules_of, recovery_of, drive_asked}
 
 -- the bytes that are handed over
@@ -72,7 +73,31 @@ pub record HoldsKernel (d : kernels.Drive) (hand : Hand) (bytes : List ℕ) : Ty
 pub record HoldsHand (sw : Switches) (found : Found) (w : World) (handed : Handed) (hand : Hand) : Type 0 where
   pub firmware : HoldsSlot found w hand.slot hand handed.firmware
   pub kernel : HoldsKernel (drive_by sw found w hand) hand handed.kernel
+  -- where versions are checked, neither is older than the version that is stored after the boot
+  pub firmware_no_older : IsTrue (checks_versions found.gbb) → IsSome hand.slot → IfSome hand.stored_fw (λ stored. stored ≤ hand.fw_version)
+  pub kernel_no_older : IsTrue (versions_are_checked (rules_of sw found hand.mode))
+      → IfSome hand.stored_kernel (λ stored. stored ≤ hand.kernel_version)
 
 abbrev pub HoldsOutcome : Switches → Found → World → Handed → Outcome → Type 0
 HoldsOutcome sw found w handed (outcome.HandOver hand) = HoldsHand sw found w handed hand
 HoldsOutcome sw found w handed other = Unit {0}
+
+-- ---- what stands of it after the boot
+
+-- The kernel stands in the partition of an entry of the drive's table. The entry may have lost its last try.
+pub record StandsKernel (d : kernels.Drive) (hand : Hand) (bytes : List ℕ) : Type 0 where
+  pub table : PartitionTable
+  pub there : table_on d.disk.medium ≡ Some table
+  pub stands : IsKernelAt d table.entries (hand.partition - 1) (kernel_in hand) bytes
+
+-- What was handed over stands on this board, which is the one after the boot; `found` is what was found before.
+pub record StandsHand (sw : Switches) (found : Found) (w : World) (handed : Handed) (hand : Hand) : Type 0 where
+  pub firmware : HoldsSlot found w hand.slot hand handed.firmware
+  pub kernel : StandsKernel (drive_by sw found w hand) hand handed.kernel
+  -- the stored versions are those that it names
+  pub stored_fw : stored_firmware_version w.tpm.spaces.firmware ≡ hand.stored_fw
+  pub stored_kernel : stored_kernel_version w.tpm.spaces.kernel ≡ hand.stored_kernel
+
+abbrev pub StandsOutcome : Switches → Found → World → Handed → Outcome → Type 0
+StandsOutcome sw found w handed (outcome.HandOver hand) = StandsHand sw found w handed hand
+StandsOutcome sw found w handed other = Unit {0}

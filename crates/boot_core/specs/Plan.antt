@@ -31,7 +31,7 @@ use Rattle.boot_core.specs.declared.plan.Plan.{Plan}
 use Rattle.boot_core.specs.Changes.{Change, Firmware, Record, Kernel as KernelSpace, listed, tabled}
 use Rattle.boot_core.specs.Spaces.{booted_record, screened_record, enabled_record, disables_dev, is_trying, record_change, second_change}
 use Rattle.boot_core.specs.Spaces.{flags_change, version_change, enabling_change, firmware_stored, firmware_stored_after}
-use Rattle.boot_core.specs.Spaces.{kernel_change, kernel_stored, kernel_stored_after}
+use Rattle.boot_core.specs.Spaces.{kernel_change, kernel_stored, kernel_stored_after, firmware_kept, kernel_kept}
 use Rattle.boot_core.specs.Facts.{facts_of}
 use Rattle.boot_core.specs.Slots.{slot_asked, slot_answer}
 use Rattle.boot_core.specs.Drives.{Look, drive_of, rules_of, recovery_of, seen_on}
@@ -62,6 +62,16 @@ missing_subcode (seen.Table walked changed) = 2
 -- the records of a plan have one form
 abbrev pub IsOfOneForm : Plan → Type 0
 IsOfOneForm plan = IfSome plan.last (λ second. IfSome plan.nv (λ first. form_of second ≡ form_of first))
+
+-- a hand-over names the versions that are stored after these changes of both spaces
+abbrev pub NamesStored : Found → (firmware kernel : Option (List ℕ)) → Outcome → Type 0
+NamesStored found firmware kernel (outcome.HandOver hand) =
+    (hand.stored_fw ≡ firmware_kept found.firmware firmware) × (hand.stored_kernel ≡ kernel_kept found.kernel kernel)
+NamesStored found firmware kernel other = Unit {0}
+
+-- those of a plan
+abbrev pub TellsStored : Found → Plan → Type 0
+TellsStored found plan = NamesStored found plan.firmware plan.kernel plan.outcome
 
 -- ---- without a good slot
 

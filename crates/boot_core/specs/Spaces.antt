@@ -115,6 +115,12 @@ abbrev pub firmware_stored_after : Result (List ℕ) SpaceFault → (nv : List �
 firmware_stored_after (Ok space) nv selection version = Some (new_firmware_version nv selection (firmware_versions space) version)
 firmware_stored_after (Err fault) nv selection version = None
 
+-- the version that is stored after a change of the space, or after none
+abbrev pub firmware_kept : Result (List ℕ) SpaceFault → Option (List ℕ) → Option ℕ
+firmware_kept old (Some new) = stored_firmware_version new
+firmware_kept (Ok old) None = stored_firmware_version old
+firmware_kept (Err fault) None = None
+
 -- ---- the kernel space
 
 -- The rise of the kernel's version after one was chosen: the lowest one that the walk found to store, where it is over the stored
@@ -138,6 +144,11 @@ kernel_stored (Err fault) = None
 abbrev pub kernel_stored_after : Result (List ℕ) SpaceFault → (nv : List ℕ) → (on_trial : Bool) → (lowest : ℕ) → Option ℕ
 kernel_stored_after (Ok space) nv on_trial lowest = Some (new_kernel_version nv on_trial (kernel_versions space) lowest)
 kernel_stored_after (Err fault) nv on_trial lowest = None
+
+abbrev pub kernel_kept : Result (List ℕ) SpaceFault → Option (List ℕ) → Option ℕ
+kernel_kept old (Some new) = stored_kernel_version new
+kernel_kept (Ok old) None = stored_kernel_version old
+kernel_kept (Err fault) None = None
 
 -- ---- versions that do not fall
 

@@ -1,12 +1,12 @@
 -- The steps of a boot over its board: reading, changing and locking.
-use Rattle.std.specs.Prelude.{◌≡◌, ℕ, ◌+◌, ◌*◌, ◌%◌, ◌≤◌, Bool, true, false, if◌then◌else◌, IsTrue, List, Option, Some, None, Result, is_err, IfOk, IfErr, IfSome, OnOk}
+use Rattle.std.specs.Prelude.{◌≡◌, ℕ, ◌+◌, ◌*◌, ◌%◌, ◌≤◌, Bool, true, false, if◌then◌else◌, IsTrue, List, length, Option, Some, None, Result, is_err, IfOk, IfErr, IfSome, OnOk}
 use Rattle.record_core.specs.declared.space.SpaceFault.{SpaceFault}
 use Rattle.record_core.specs.Space.{firmware_fault, kernel_fault, good_bytes}
 use Rattle.board_core.specs.declared.device.Device.TheVariants as device
 use Rattle.board_core.specs.declared.device.Fault.{Fault}
 use Rattle.board_core.specs.Counters.{Observed}
 use Rattle.board_core.specs.Fault.{is_fault_of}
-use Rattle.board_core.specs.Tpm.{TpmState, Locks, unlocked}
+use Rattle.board_core.specs.Tpm.{TpmState, Locks, unlocked, AreWithinSize}
 use Rattle.board_core.specs.Drive.{same_drive}
 use Rattle.board_core.specs.World.{World, drive_on, with_drive}
 use Rattle.rom_core.specs.declared.map.Map.{Map}
@@ -39,7 +39,7 @@ use Rattle.boot_core.specs.Spaces.{RaisesVersion, RaisesKernel}
 use Rattle.boot_core.specs.Facts.{found_in, found_of}
 use Rattle.boot_core.specs.Slots.{slot_asked, slot_answer, HoldsFirmware}
 use Rattle.boot_core.specs.Drives.{drive_asked, seen_on, Look, asked_at, table_after_look}
-use Rattle.boot_core.specs.Plan.{selected_answer, slot_plan_of, look_by, manual_plan_of, look_in, plan_of, look_of, IsOfOneForm, first_changes, later_changes, changes_of}
+use Rattle.boot_core.specs.Plan.{selected_answer, slot_plan_of, look_by, manual_plan_of, look_in, plan_of, look_of, IsOfOneForm, TellsStored, first_changes, later_changes, changes_of}
 use Rattle.boot_core.specs.Hands.{handed_by, HoldsOutcome}
 use Rattle.boot_core.specs.Carries.{SameDisk, Targets, CarriesOut}
 
@@ -74,6 +74,13 @@ pub record IsTold (w : World) : Type 0 where
   pub disk : IsTrue w.disk.medium.told
   pub stick : IsTrue w.stick.medium.told
   pub hook : IsTrue w.hook.told
+
+-- What a device tells has the length that its size says.
+pub record HasSizes (w : World) : Type 0 where
+  pub flash : IsTrue w.flash.medium.told → length w.flash.medium.bytes ≡ w.flash.medium.size
+  pub tpm : IsTrue w.tpm.told → AreWithinSize w.tpm.spaces
+  pub disk : IsTrue w.disk.medium.told → length w.disk.medium.bytes ≡ w.disk.medium.sectors * 512
+  pub stick : IsTrue w.stick.medium.told → length w.stick.medium.bytes ≡ w.stick.medium.sectors * 512
 
 -- the pages of nvdata lie in a flash of this size
 pub record IsAreaIn (size area : ℕ) : Type 0 where
@@ -168,6 +175,10 @@ most_read (Some look) w on =
 abbrev pub ReadsAtMost : Option Look → World → World → Type 0
 ReadsAtMost look old new = (on : Drive) → (drive_on on new).medium.sectors_read ≤ (drive_on on old).medium.sectors_read + most_read look old on
 
+-- a room holds the table of the disk after a walk
+abbrev pub WalkedOn : World → RoomView → Type 0
+WalkedOn w room = (key : PackedKey) × (rules : KernelRules) × HoldsWalked (drive_asked drive.Disk key rules w) room
+
 -- A plan is made, before any change: this one, for which it is looked for a kernel there. `room` is the room afterwards.
 pub record Plans (sw : Switches) (found : Found) (look : Option Look) (planned : Plan) (old new : World) (room : Room)
     (result : Result Plan Fault) : Type 0 where
@@ -183,9 +194,13 @@ pub record Plans (sw : Switches) (found : Found) (look : Option Look) (planned :
   -- a table that is written is that of the room: the one after the walk
   pub ready : IfOk result (λ plan. plan.table ≡ true → CanCommit new.disk room.gpt)
   pub table : IsTold old → IfOk result (λ plan. plan.table ≡ true → room.gpt.table ≡ table_after_look look old)
+  -- and that is the one of the disk, in which each entry has met its fate
+  pub walked : IsTold old → IfOk result (λ plan. plan.table ≡ true → WalkedOn old room.gpt)
   -- where it is not written, both copies of the disk agree already
   pub agree : IsTold old → IfOk result (λ plan. IsFromDisk plan.outcome → plan.table ≡ false → IsTrue (copies_agree old.disk.medium))
   pub holds : IsTold old → IfOk result (λ plan. HoldsOutcome sw found old (handed_by room) plan.outcome)
+  -- a hand-over names the versions that are stored after it
+  pub stored : IfOk result (TellsStored found)
   pub reads : IsTold old → ReadsAtMost look old new
 
 -- The plan of a mode that boots a slot.

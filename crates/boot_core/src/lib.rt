@@ -29,7 +29,7 @@ mod spaces;
 mod switches;
 
 pub use booting::boot;
-pub use laws::{good_choice_is_taken, nvdata_is_beside};
+pub use laws::{good_choice_is_taken, nvdata_is_beside, table_is_beside};
 pub use outcome::{Hand, Outcome};
 pub use room::Room;
 pub use switches::{Choice, Switches};

@@ -1,10 +1,10 @@
 // The rows of the plan of a boot: from what was found and seen, the outcome and the changes, before anything is changed. Constants
 // are recovery reasons, subcodes of a screen, and a flag of the firmware space.
-ghost use Rattle.std.specs.Prelude.{◌≡◌, IfSome};
+ghost use Rattle.std.specs.Prelude.{◌≡◌, IfSome, None};
 ghost use Rattle.fwsel_core.specs.Selection.{selection_of};
 ghost use Rattle.boot_core.specs.Facts as facts;
 ghost use Rattle.boot_core.specs.Plan as spec;
-ghost use Rattle.boot_core.specs.Spaces.{RaisesVersion, RaisesKernel};
+ghost use Rattle.boot_core.specs.Spaces.{RaisesVersion, RaisesKernel, firmware_kept, firmware_stored_after, kernel_kept};
 ghost use Rattle.walk_core.specs.Seen as seen_spec;
 
 use crate::found::Found;
@@ -21,7 +21,7 @@ use fwsel_core::{ModeFacts, Selection, fail};
 use kernel_core::BootMode;
 use record_core::{FwSpace, KernelSpace, Nv, SpaceFault};
 use rom_core::{Gbb, GbbFault};
-use walk_core::{Kernel, Seen};
+use walk_core::{Kernel, Seen, Walked};
 
 const REASON_MANUAL: u8 = 2;
 
@@ -150,6 +150,17 @@ pub fn reboot_plan(found: &Found, developer: bool, selection: Selection, fault: 
 
 // ---- with a good slot
 
+/// A slot that was selected and found good, and the mode that boots it.
+#[derive(Clone, Copy, Debug)]
+pub struct GoodSlot {
+    /// Whether it is booted in developer mode.
+    pub developer: bool,
+    /// What the record selects.
+    pub selection: Selection,
+    /// What the check of the slot found.
+    pub ok: SlotOk,
+}
+
 /// The mode of a boot that goes on with a slot.
 pub fn boot_mode_of(developer: bool) -> BootMode
     ensures { result ≡ spec.boot_mode_of developer }
@@ -161,185 +172,143 @@ pub fn boot_mode_of(developer: bool) -> BootMode
     }
 }
 
-// A plan that changes the firmware space and the record, and then this.
-fn good_plan(
-    found: &Found,
-    developer: bool,
-    selection: Selection,
-    ok: &SlotOk,
-    outcome: Outcome,
-    table: bool,
-    kernel: Option<KernelSpace>,
-    last: Option<Nv>,
-) -> Plan
-    requires { selection ≡ selection_of found.now.state.nv }
-    ensures plan { result ≡ spec.good_plan_of found.now developer ok.now outcome table kernel last }
+// This plan with what a good slot changes before it: the firmware space and the record.
+fn good_plan(found: &Found, slot: &GoodSlot, later: Plan) -> Plan
+    requires { slot.now.selection ≡ selection_of found.now.state.nv }
+    ensures plan { result ≡ spec.good_plan_of found.now slot.now.developer slot.now.ok later.outcome later.table later.kernel later.last }
     ensures version { IfSome result.firmware (RaisesVersion found.now.firmware) }
+    ensures kept { firmware_kept found.now.firmware result.firmware
+        ≡ firmware_stored_after found.now.firmware found.now.state.nv (selection_of found.now.state.nv) slot.now.ok.version }
 {
     Plan {
-        outcome,
         firmware: version_change(
             &found.firmware,
-            developer,
+            slot.developer,
             &found.state.nv,
-            selection,
-            ok.version,
+            slot.selection,
+            slot.ok.version,
         ),
         nv: record_change(&found.state, &booted(&found.state.nv)),
-        table,
-        kernel,
-        last,
+        ..later
     }
 }
 
 // What is handed over: the firmware of the slot, and this kernel.
 fn hand_of(
     found: &Found,
-    developer: bool,
-    selection: Selection,
-    ok: &SlotOk,
+    slot: &GoodSlot,
     drive: Drive,
     kernel: &Kernel,
     stored_kernel: Option<u32>,
 ) -> Hand
-    requires { selection ≡ selection_of found.now.state.nv }
-    ensures { result ≡ spec.hand_of found.now developer ok.now drive kernel.now stored_kernel }
+    requires { slot.now.selection ≡ selection_of found.now.state.nv }
+    ensures { result ≡ spec.hand_of found.now slot.now.developer slot.now.ok drive kernel.now stored_kernel }
 {
+    let version = slot.ok.version;
     Hand {
-        mode: boot_mode_of(developer),
+        mode: boot_mode_of(slot.developer),
         drive,
-        slot: Some(selection.slot),
-        fw_version: ok.version,
-        fw_len: ok.body_len,
+        slot: Some(slot.selection.slot),
+        fw_version: version,
+        fw_len: slot.ok.body_len,
         partition: kernel.partition,
         kernel_version: kernel.version,
         kernel_len: kernel.body_len,
         load_address: kernel.load_address,
-        stored_fw: firmware_stored_after(&found.firmware, &found.state.nv, selection, ok.version),
+        stored_fw: firmware_stored_after(&found.firmware, &found.state.nv, slot.selection, version),
         stored_kernel,
     }
 }
 
 /// The plan of a boot with a good slot, by what is seen on its drive.
-pub fn drive_plan(
-    found: &Found,
-    developer: bool,
-    selection: Selection,
-    ok: &SlotOk,
-    drive: Drive,
-    seen: &Seen,
-) -> Plan
-    requires { selection ≡ selection_of found.now.state.nv }
-    ensures plan { result ≡ spec.drive_plan_of found.now developer ok.now drive seen.now }
+pub fn drive_plan(found: &Found, slot: &GoodSlot, drive: Drive, seen: &Seen) -> Plan
+    requires { slot.now.selection ≡ selection_of found.now.state.nv }
+    ensures plan { result ≡ spec.drive_plan_of found.now slot.now.developer slot.now.ok drive seen.now }
     ensures version { IfSome result.firmware (RaisesVersion found.now.firmware) }
     ensures kernel { IfSome result.kernel (RaisesKernel found.now.kernel) }
+    ensures stored { spec.TellsStored found.now result }
 {
     match drive {
-        Drive::Stick => stick_plan(found, developer, selection, ok, seen),
+        Drive::Stick => stick_plan(found, slot, seen),
         Drive::Disk => match seen {
-            Seen::NoTable => failed_plan(found, developer, selection, ok, REASON_NO_TABLE, false),
-            Seen::Table { walked, changed } => disk_plan(
-                found,
-                developer,
-                selection,
-                ok,
-                &walked.chosen,
-                walked.lowest,
-                *changed,
-            ),
+            Seen::NoTable => failed_plan(found, slot, REASON_NO_TABLE, false),
+            Seen::Table { walked, changed } => disk_plan(found, slot, walked, *changed),
         },
     }
 }
 
 // Nothing is written to a stick.
-fn stick_plan(
-    found: &Found,
-    developer: bool,
-    selection: Selection,
-    ok: &SlotOk,
-    seen: &Seen,
-) -> Plan
-    requires { selection ≡ selection_of found.now.state.nv }
-    ensures plan { result ≡ spec.stick_plan_of found.now developer ok.now (spec.missing_subcode seen.now) (seen_spec.kernel_of seen.now) }
+fn stick_plan(found: &Found, slot: &GoodSlot, seen: &Seen) -> Plan
+    requires { slot.now.selection ≡ selection_of found.now.state.nv }
+    ensures plan { result ≡ spec.stick_plan_of found.now slot.now.developer slot.now.ok (spec.missing_subcode seen.now)
+        (seen_spec.kernel_of seen.now) }
     ensures version { IfSome result.firmware (RaisesVersion found.now.firmware) }
     ensures kernel { IfSome result.kernel (RaisesKernel found.now.kernel) }
+    ensures stored { spec.TellsStored found.now result }
 {
     let outcome = match kernel_of(seen) {
-        Some(kernel) => Outcome::HandOver(hand_of(
-            found,
-            developer,
-            selection,
-            ok,
-            Drive::Stick,
-            &kernel,
-            kernel_stored(&found.kernel),
-        )),
+        Some(kernel) => {
+            let stored = kernel_stored(&found.kernel);
+            Outcome::HandOver(hand_of(found, slot, Drive::Stick, &kernel, stored))
+        }
         None => Outcome::Screen {
             reason: REASON_NO_EXTERNAL,
             subcode: missing_subcode(seen),
         },
     };
-    good_plan(found, developer, selection, ok, outcome, false, None, None)
+    good_plan(found, slot, record_plan(outcome, None))
 }
 
 // The disk cannot be booted: after the record of the attempt comes that of its failure.
-fn failed_plan(
-    found: &Found,
-    developer: bool,
-    selection: Selection,
-    ok: &SlotOk,
-    reason: u8,
-    table: bool,
-) -> Plan
-    requires selected { selection ≡ selection_of found.now.state.nv }
+fn failed_plan(found: &Found, slot: &GoodSlot, reason: u8, table: bool) -> Plan
+    requires selected { slot.now.selection ≡ selection_of found.now.state.nv }
     requires some { reason ≡ 0 → ⊥ }
-    ensures plan { result ≡ spec.failed_plan_of found.now developer ok.now reason table }
+    ensures plan { result ≡ spec.failed_plan_of found.now slot.now.developer slot.now.ok reason table }
     ensures version { IfSome result.firmware (RaisesVersion found.now.firmware) }
     ensures kernel { IfSome result.kernel (RaisesKernel found.now.kernel) }
+    ensures stored { spec.TellsStored found.now result }
 {
     let first = booted(&found.state.nv);
     let mut second = first;
-    let requested = fail(&mut second, Some(selection), reason, 0);
+    let requested = fail(&mut second, Some(slot.selection), reason, 0);
     let outcome = Outcome::Reboot {
         reason,
         subcode: 0,
         requested,
     };
-    let last = second_change(&first, &second);
-    good_plan(found, developer, selection, ok, outcome, table, None, last)
-}
-
-// By the kernel of the disk that was chosen.
-fn disk_plan(
-    found: &Found,
-    developer: bool,
-    selection: Selection,
-    ok: &SlotOk,
-    chosen: &Option<Kernel>,
-    lowest: u32,
-    changed: bool,
-) -> Plan
-    requires { selection ≡ selection_of found.now.state.nv }
-    ensures plan { result ≡ spec.disk_plan_of found.now developer ok.now chosen.now lowest changed }
-    ensures version { IfSome result.firmware (RaisesVersion found.now.firmware) }
-    ensures kernel { IfSome result.kernel (RaisesKernel found.now.kernel) }
-{
-    let Some(kernel) = chosen else {
-        return failed_plan(found, developer, selection, ok, REASON_NO_KERNEL, changed);
-    };
-    let on_trial = is_trying(&booted(&found.state.nv));
-    let stored = kernel_stored_after(&found.kernel, &found.state.nv, on_trial, lowest);
-    let hand = hand_of(found, developer, selection, ok, Drive::Disk, kernel, stored);
-    let space = kernel_change(&found.kernel, &found.state.nv, on_trial, lowest);
     good_plan(
         found,
-        developer,
-        selection,
-        ok,
-        Outcome::HandOver(hand),
-        changed,
-        space,
-        None,
+        slot,
+        Plan {
+            table,
+            last: second_change(&first, &second),
+            ..record_plan(outcome, None)
+        },
+    )
+}
+
+// By the walk over the kernels of the disk.
+fn disk_plan(found: &Found, slot: &GoodSlot, walked: &Walked, changed: bool) -> Plan
+    requires { slot.now.selection ≡ selection_of found.now.state.nv }
+    ensures plan { result ≡ spec.disk_plan_of found.now slot.now.developer slot.now.ok walked.now.chosen walked.now.lowest changed }
+    ensures version { IfSome result.firmware (RaisesVersion found.now.firmware) }
+    ensures kernel { IfSome result.kernel (RaisesKernel found.now.kernel) }
+    ensures stored { spec.TellsStored found.now result }
+{
+    let Some(kernel) = &walked.chosen else {
+        return failed_plan(found, slot, REASON_NO_KERNEL, changed);
+    };
+    let on_trial = is_trying(&booted(&found.state.nv));
+    let stored = kernel_stored_after(&found.kernel, &found.state.nv, on_trial, walked.lowest);
+    let hand = hand_of(found, slot, Drive::Disk, kernel, stored);
+    good_plan(
+        found,
+        slot,
+        Plan {
+            table: changed,
+            kernel: kernel_change(&found.kernel, &found.state.nv, on_trial, walked.lowest),
+            ..record_plan(Outcome::HandOver(hand), None)
+        },
     )
 }
 
@@ -372,7 +341,8 @@ pub fn enabling_plan(found: &Found) -> Plan
 
 /// The plan of another recovery, by what is seen on the stick.
 pub fn recovery_plan(found: &Found, seen: &Seen) -> Plan
-    ensures { result ≡ spec.recovery_plan_of found.now seen.now }
+    ensures plan { result ≡ spec.recovery_plan_of found.now seen.now }
+    ensures stored { spec.TellsStored found.now result }
 {
     let outcome = match kernel_of(seen) {
         Some(kernel) => Outcome::HandOver(recovery_hand(found, &kernel)),
@@ -387,7 +357,8 @@ pub fn recovery_plan(found: &Found, seen: &Seen) -> Plan
 
 // What is handed over in a recovery: a kernel of the stick, and no firmware.
 fn recovery_hand(found: &Found, kernel: &Kernel) -> Hand
-    ensures { result ≡ spec.recovery_hand_of found.now kernel.now }
+    ensures hand { result ≡ spec.recovery_hand_of found.now kernel.now }
+    ensures stored { (result.stored_fw ≡ firmware_kept found.now.firmware None) × (result.stored_kernel ≡ kernel_kept found.now.kernel None) }
 {
     Hand {
         mode: BootMode::Recovery,

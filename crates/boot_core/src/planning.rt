@@ -10,7 +10,7 @@ use crate::drive_seen::look_at;
 use crate::drives::{drive_of, recovery_of, rules_of};
 use crate::found::Found;
 use crate::plan::{
-    Plan, boot_mode_of, drive_plan, enables_dev, enabling_plan, facts_of, reboot_plan,
+    GoodSlot, Plan, boot_mode_of, drive_plan, enables_dev, enabling_plan, facts_of, reboot_plan,
     recovery_plan, screen_plan,
 };
 use crate::room::Room;
@@ -81,8 +81,13 @@ fn plan_slot<F: Flash, T: Tpm, D: Disk, E: Disk, H: Hook>(
         Err(fault) => return Ok(reboot_plan(found, developer, selection, &fault)),
     };
     room.has_firmware = true;
+    let slot = GoodSlot {
+        developer,
+        selection,
+        ok,
+    };
     let drive = drive_of(sw, found, developer);
     let rules = rules_of(sw, found, boot_mode_of(developer));
-    let seen = look_at(p, room, drive, &ok.subkey, &rules)?;
-    Ok(drive_plan(found, developer, selection, &ok, drive, &seen))
+    let seen = look_at(p, room, drive, &slot.ok.subkey, &rules)?;
+    Ok(drive_plan(found, &slot, drive, &seen))
 }

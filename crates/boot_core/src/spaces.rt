@@ -105,6 +105,7 @@ pub fn version_change(
     version: u32,
 ) -> Option<FwSpace>
     ensures change { result ≡ spec.version_change space.now developer nv.now selection version }
+    ensures kept { spec.firmware_kept space.now result ≡ spec.firmware_stored_after space.now nv.now selection version }
     ensures version { IfSome result (RaisesVersion space.now) }
 {
     let Ok(old) = space else {
@@ -130,7 +131,8 @@ pub fn enabling_change(space: &Result<FwSpace, SpaceFault>) -> Option<FwSpace>
 
 /// The version of the firmware that is stored in a space, or none where it has a fault.
 pub fn firmware_stored(space: &Result<FwSpace, SpaceFault>) -> Option<u32>
-    ensures { result ≡ spec.firmware_stored space.now }
+    ensures is { result ≡ spec.firmware_stored space.now }
+    ensures kept { spec.firmware_kept space.now None ≡ result }
 {
     match space {
         Ok(space) => Some(space.versions()),
@@ -194,6 +196,7 @@ fn has_succeeded(selection: Selection) -> bool
 // The new space, where it differs from the old one.
 fn space_change(old: &FwSpace, new: FwSpace) -> Option<FwSpace>
     ensures change { result ≡ spec.space_change old.now new }
+    ensures kept { spec.firmware_kept (Ok old.now) result ≡ stored_firmware_version new }
     ensures is { IfSome result (λ space. space ≡ new) }
 {
     if new.to_bytes() == old.to_bytes() {
@@ -214,6 +217,7 @@ pub fn kernel_change(
     lowest: u32,
 ) -> Option<KernelSpace>
     ensures change { result ≡ spec.kernel_change space.now nv.now on_trial lowest }
+    ensures kept { spec.kernel_kept space.now result ≡ spec.kernel_stored_after space.now nv.now on_trial lowest }
     ensures version { IfSome result (RaisesKernel space.now) }
 {
     let Ok(old) = space else {
@@ -230,7 +234,8 @@ pub fn kernel_change(
 
 /// The version of the kernel that is stored in a space, or none where it has a fault.
 pub fn kernel_stored(space: &Result<KernelSpace, SpaceFault>) -> Option<u32>
-    ensures { result ≡ spec.kernel_stored space.now }
+    ensures is { result ≡ spec.kernel_stored space.now }
+    ensures kept { spec.kernel_kept space.now None ≡ result }
 {
     match space {
         Ok(space) => Some(space.versions()),

@@ -24,4 +24,5 @@ returns g c =
     let looked : LooksAtDrive Stick (recovery_of found.gbb) (rules_of sw found boot_mode.Recovery) old new room.gpt room.kernel seen =
     subst (λ (k : PackedKey). LooksAtDrive Stick k (rules_of sw found boot_mode.Recovery) old new room.gpt room.kernel seen) c.recovery_of-key.ensures
     (subst (λ (r : KernelRules). LooksAtDrive Stick c.recovery_of-key.result r old new room.gpt room.kernel seen) c.rules_of-rules.ensures c.in_ok-seen.ensures.looks) in
-    plan_recovered sw found old new room what c.recovery_plan.result (sym c.enables_dev.ensures ∙ c.if-enables_dev.false) looked c.in_ok-seen.ensures.firmware c.recovery_plan.ensures
+    plan_recovered sw found old new room what c.recovery_plan.result (sym c.enables_dev.ensures ∙ c.if-enables_dev.false) looked c.in_ok-seen.ensures.firmware c.recovery_plan.ensures.plan
+    c.recovery_plan.ensures.stored

@@ -61,3 +61,4 @@ returns g c =
     (subst (λ (r : KernelRules). LooksAtDrive c.drive_of-drive.result ok.subkey r mid new room.gpt room.kernel seen) rules c.in_ok-seen.ensures.looks) in
     plan_good sw found developer old mid new room ok what c.drive_plan.result here looked c.in_ok-seen.ensures.firmware
     (c.drive_plan.ensures.plan ∙ ap (λ (d : Drive). drive_plan_of found developer ok d what) c.drive_of-drive.ensures) c.drive_plan.ensures.version c.drive_plan.ensures.kernel
+    c.drive_plan.ensures.stored

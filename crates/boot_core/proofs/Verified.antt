@@ -14,6 +14,7 @@ use Rattle.rom_core.specs.declared.map.Map.{Map}
 use Rattle.rom_core.specs.MapFits.{FitsFlash}
 use Rattle.chain_core.specs.Slot.{SlotQuestion, slot_question, slot_fault, slot_ok, VerifiesSlot}
 use Rattle.chain_core.specs.declared.fault.Failure.TheVariants.{Store, Hook}
+use Rattle.chain_core.specs.declared.slot.SlotRequest.{SlotRequest}
 use Rattle.chain_core.specs.declared.slot_fault.SlotFault.{SlotFault}
 use Rattle.chain_core.specs.declared.slot_fault.SlotOk.{SlotOk}
 use Rattle.boot_core.specs.declared.found.Found.{Found}
@@ -63,16 +64,23 @@ holds_of q flash flash' hook hook' body (Ok ok) h told told' = record {
 }
 holds_of q flash flash' hook hook' body (Err fault) h told told' = tt
 
+-- a request of these
+abbrev request_of : (vblock main : Area) (stored : ℕ) (rollback : Bool) → SlotRequest
+request_of vblock main stored rollback = record { vblock = vblock; main = main; stored = stored; rollback = rollback }
+
 -- it is asked with these
-pub asked_is : (found : Found) (slot : Slot) (w : World) (root : PackedKey) (vblock main : Area) (stored : ℕ) (rollback : Bool) → root ≡ root_of found.gbb → vblock ≡ vblock_of slot found.map → main ≡ main_of slot found.map
-    → stored ≡ stored_of found.firmware → rollback ≡ checks_versions found.gbb → slot_question root vblock main stored rollback w.flash w.hook ≡ slot_asked found slot w
+pub asked_is : (found : Found) (slot : Slot) (w : World) (root : PackedKey) (vblock main : Area) (stored : ℕ) (rollback : Bool)
+    → root ≡ root_of found.gbb → vblock ≡ vblock_of slot found.map → main ≡ main_of slot found.map
+    → stored ≡ stored_of found.firmware → rollback ≡ checks_versions found.gbb
+    → slot_question root (request_of vblock main stored rollback) w.flash w.hook ≡ slot_asked found slot w
 unfolding slot_asked
 asked_is found slot w root vblock main stored rollback a b c d e =
-    ap (λ (k : PackedKey). slot_question k vblock main stored rollback w.flash w.hook) a
-    ∙ ap (λ (v : Area). slot_question (root_of found.gbb) v main stored rollback w.flash w.hook) b
-    ∙ ap (λ (m : Area). slot_question (root_of found.gbb) (vblock_of slot found.map) m stored rollback w.flash w.hook) c
-    ∙ ap (λ (n : ℕ). slot_question (root_of found.gbb) (vblock_of slot found.map) (main_of slot found.map) n rollback w.flash w.hook) d
-    ∙ ap (λ (y : Bool). slot_question (root_of found.gbb) (vblock_of slot found.map) (main_of slot found.map) (stored_of found.firmware) y w.flash w.hook) e
+    ap (λ (k : PackedKey). slot_question k (request_of vblock main stored rollback) w.flash w.hook) a
+    ∙ ap (λ (r : SlotRequest). slot_question (root_of found.gbb) r w.flash w.hook)
+    (ap (λ (v : Area). request_of v main stored rollback) b
+    ∙ ap (λ (m : Area). request_of (vblock_of slot found.map) m stored rollback) c
+    ∙ ap (λ (n : ℕ). request_of (vblock_of slot found.map) (main_of slot found.map) n rollback) d
+    ∙ ap (request_of (vblock_of slot found.map) (main_of slot found.map) (stored_of found.firmware)) e)
 
 pub checks_slot : (found : Found) (slot : Slot) (w : World) (flash : FlashState) (hook : HookState) (body : List ℕ) (q : SlotQuestion) (answer : Result SlotOk SlotFault) → q ≡ slot_asked found slot w
     → VerifiesSlot q w.flash flash w.hook hook body (Ok answer) → ChecksSlot found slot w (with_asked w flash hook) body (Ok answer)

@@ -54,8 +54,12 @@ stored_of (Err fault) = 0
 -- what is asked of a slot of a board
 unfoldable pub slot_asked : Found → Slot → World → SlotQuestion
 slot_asked found slot w =
-    slot_question (root_of found.gbb) (vblock_of slot found.map) (main_of slot found.map) (stored_of found.firmware)
-    (checks_versions found.gbb) w.flash w.hook
+    slot_question (root_of found.gbb) (record {
+      vblock = vblock_of slot found.map;
+      main = main_of slot found.map;
+      stored = stored_of found.firmware;
+      rollback = checks_versions found.gbb;
+    }) w.flash w.hook
 
 -- the first fault of its table, or what a good one holds
 unfoldable pub slot_answer : SlotQuestion → Result SlotOk SlotFault

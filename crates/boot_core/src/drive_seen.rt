@@ -9,7 +9,7 @@ use crate::reading::fault_of;
 use crate::room::Room;
 use board_core::{Device, Disk, Drive, Fault, Flash, Hook, Platform, Tpm};
 use chain_core::Failure;
-use kernel_core::KernelRules;
+use kernel_core::{KernelRequest, KernelRules};
 use key_core::PackedKey;
 use walk_core::{Seen, see};
 
@@ -48,9 +48,13 @@ pub fn look_at<F: Flash, T: Tpm, D: Disk, E: Disk, H: Hook>(
         kernel,
         ..
     } = room;
+    let request = KernelRequest {
+        key: *key,
+        rules: *rules,
+    };
     let answer = match drive {
-        Drive::Disk => see(&mut p.disk, &mut p.hook, gpt, vblock, kernel, key, rules),
-        Drive::Stick => see(&mut p.stick, &mut p.hook, gpt, vblock, kernel, key, rules),
+        Drive::Disk => see(&mut p.disk, &mut p.hook, gpt, vblock, kernel, &request),
+        Drive::Stick => see(&mut p.stick, &mut p.hook, gpt, vblock, kernel, &request),
     };
     match answer {
         Ok(seen) => Ok(seen),

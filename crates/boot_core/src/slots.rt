@@ -9,7 +9,7 @@ use crate::found::Found;
 use crate::reading::fault_of;
 use crate::room::Room;
 use board_core::{Device, Disk, Fault, Flash, Hook, Platform, Tpm};
-use chain_core::{Failure, SlotFault, SlotOk, verify_slot};
+use chain_core::{Failure, SlotFault, SlotOk, SlotRequest, verify_slot};
 use fwsel_core::Slot;
 use key_core::{LARGEST_KEY, PackedKey};
 use record_core::{FwSpace, SpaceFault};
@@ -35,16 +35,13 @@ pub fn check_slot<F: Flash, T: Tpm, D: Disk, E: Disk, H: Hook>(
     let rollback = checks_versions(&found.gbb);
     let vblock = vblock_of(&found.map, slot);
     let main = main_of(&found.map, slot);
-    match verify_slot(
-        &mut p.flash,
-        &mut p.hook,
-        &root,
+    let request = SlotRequest {
         vblock,
         main,
         stored,
         rollback,
-        &mut room.slot,
-    ) {
+    };
+    match verify_slot(&mut p.flash, &mut p.hook, &root, request, &mut room.slot) {
         Ok(answer) => Ok(answer),
         Err(Failure::Store) => Err(fault_of(Device::Flash)),
         Err(Failure::Hook) => Err(fault_of(Device::Hook)),

@@ -16,11 +16,11 @@ use Rattle.preamble_core.specs.Firmware.{FwPreamble, firmware_preamble_in, FwPre
 use Rattle.preamble_core.specs.Lines.{lifted}
 use Rattle.preamble_core.specs.declared.common.PreambleKind.TheVariants as kinds
 use Rattle.rom_core.specs.Gbb.{Looks, area_bytes}
-use Rattle.rom_core.specs.declared.area.Area.{Area}
 use Rattle.chain_core.specs.Accepted.{Accepts, Asked, key_of}
 use Rattle.chain_core.specs.Bodies.{store_failed, hook_failed}
 use Rattle.chain_core.specs.Tables.{KeyblockQuestion, keyblock_table, PreambleQuestion, preamble_table, BodyQuestion, body_table, combined_version}
 use Rattle.chain_core.specs.declared.fault.Failure.{Failure}
+use Rattle.chain_core.specs.declared.slot.SlotRequest.{SlotRequest}
 use Rattle.chain_core.specs.declared.slot_fault.SlotFault.{SlotFault}
 use Rattle.chain_core.specs.declared.slot_fault.SlotFault.TheVariants as slot_faults
 use Rattle.chain_core.specs.declared.slot_fault.SlotOk.{SlotOk}
@@ -119,14 +119,14 @@ pub record FirmwareChain (q : SlotQuestion) : Type 0 where
 -- ---- the call
 
 -- what is asked of the slot in two areas of a flash, of a hook
-abbrev pub slot_question : PackedKey → (vblock main : Area) → (stored : ℕ) → (rollback : Bool) → FlashState → HookState → SlotQuestion
-slot_question root vblock main stored rollback flash hook = record {
-  vblock = area_bytes vblock flash.medium;
-  main = area_bytes main flash.medium;
+abbrev pub slot_question : PackedKey → SlotRequest → FlashState → HookState → SlotQuestion
+slot_question root request flash hook = record {
+  vblock = area_bytes request.vblock flash.medium;
+  main = area_bytes request.main flash.medium;
   rows = hook.rows;
   root = root;
-  stored = stored;
-  rollback = rollback;
+  stored = request.stored;
+  rollback = request.rollback;
 }
 
 -- The call to verify a slot. `q` is what is asked, and `handed_out` the body that the room hands out after it.

@@ -60,7 +60,16 @@ fn read_body<F: Flash>(
     Ok(hasher)
 }
 
-/// The body of `len` bytes that an area of the flash begins with, of which `signature` is to be one of the data key `key`.
+/// Where a body stands in the flash.
+#[derive(Clone, Copy, Debug)]
+pub struct BodyPlace {
+    /// The area that it begins.
+    pub area: Area,
+    /// How many bytes it has.
+    pub len: u32,
+}
+
+/// The body that stands at a place of the flash, of which `signature` is to be one of the data key `key`.
 /// Where nothing is wrong, `body` holds its bytes. It is read in pieces of at most 65,536 bytes, each hashed as it comes.
 /// `body` has room for as many bytes as the area has, so no memory is taken. Flash and hook keep their content.
 ///
@@ -71,28 +80,27 @@ pub fn verify_flash_body<F: Flash, H: Hook>(
     hook: &mut H,
     key: &PackedKey,
     signature: &[u8],
-    main: Area,
-    len: u32,
+    place: BodyPlace,
     body: &mut Vec<u8>,
 ) -> Result<Option<BodyFault>, Failure>
-    requires inside { main.at + main.size ≤ (F.state flash.old).medium.size }
-    requires room { main.size ≤ vec_capacity body.old }
+    requires inside { place.area.at + place.area.size ≤ (F.state flash.old).medium.size }
+    requires room { place.area.size ≤ vec_capacity body.old }
     requires algorithm { key.now.algorithm ≤ LAST_ALGORITHM }
     requires size { key.now.size ≤ LARGEST_KEY }
-    ensures meets { ChecksBody key.now signature.now main len
+    ensures meets { ChecksBody key.now signature.now place.area place.len
         (F.state flash.old) (F.state flash.new) (H.state hook.old) (H.state hook.new) body.new.items result }
     ensures capacity { vec_capacity body.old ≤ vec_capacity body.new }
 {
-    if len == 0 {
+    if place.len == 0 {
         return Ok(Some(BodyFault::Empty));
     }
-    if len > main.size {
+    if place.len > place.area.size {
         return Ok(Some(BodyFault::TooLarge));
     }
     if signature.len() != signature_length(key.algorithm) as usize {
         return Ok(Some(BodyFault::SigSize));
     }
-    let hasher = match read_body(flash, main.at, len, key.algorithm, body) {
+    let hasher = match read_body(flash, place.area.at, place.len, key.algorithm, body) {
         Ok(hasher) => hasher,
         Err(Failed) => return Err(Failure::Store),
     };

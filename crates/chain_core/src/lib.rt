@@ -16,11 +16,11 @@ mod room;
 mod slot;
 mod slot_fault;
 
-pub use body::verify_flash_body;
+pub use body::{BodyPlace, verify_flash_body};
 pub use fault::{BodyFault, Failure};
 pub use hasher::{Hasher, is_signed};
 pub use keyblock::{LARGEST_VERSION, data_key_fault, verify_keyblock};
 pub use preamble::{combined_version, signature_fault, verify_preamble};
 pub use room::{LARGEST_MAIN, LARGEST_VBLOCK, SlotRoom};
-pub use slot::verify_slot;
+pub use slot::{SlotRequest, verify_slot};
 pub use slot_fault::{SlotFault, SlotOk};

@@ -2,7 +2,7 @@
 ghost use Rattle.std.specs.Prelude.{◌≡◌, ◌+◌, ◌≤◌, drop, length, vec_capacity};
 ghost use Rattle.chain_core.specs.Slot.{slot_question, VerifiesSlot};
 
-use crate::body::verify_flash_body;
+use crate::body::{BodyPlace, verify_flash_body};
 use crate::fault::Failure;
 use crate::keyblock::verify_keyblock;
 use crate::preamble::{combined_version, verify_preamble};
@@ -11,6 +11,19 @@ use crate::slot_fault::{SlotFault, SlotOk};
 use board_core::{Failed, Flash, Hook};
 use key_core::{PackedKey, pack};
 use rom_core::Area;
+
+/// What is asked of a slot: its two areas, the stored version word, and whether it is looked at.
+#[derive(Clone, Copy, Debug)]
+pub struct SlotRequest {
+    /// The area that keyblock and preamble stand in.
+    pub vblock: Area,
+    /// The area that the body stands in.
+    pub main: Area,
+    /// The stored version word: the key's version in the upper 16 bits, and the firmware's in the lower 16.
+    pub stored: u32,
+    /// Whether versions are compared with the stored ones.
+    pub rollback: bool,
+}
 
 // The bytes from a place on.
 fn behind(bytes: &[u8], at: u32) -> &[u8]
@@ -25,32 +38,29 @@ fn check_slot<F: Flash, H: Hook>(
     flash: &mut F,
     hook: &mut H,
     root: &PackedKey,
-    vblock: Area,
-    main: Area,
-    stored: u32,
-    rollback: bool,
+    request: SlotRequest,
     head: &mut [u8],
     body: &mut Vec<u8>,
 ) -> Result<Result<SlotOk, SlotFault>, Failure>
-    requires vblock_inside { vblock.at + vblock.size ≤ (F.state flash.old).medium.size }
-    requires main_inside { main.at + main.size ≤ (F.state flash.old).medium.size }
-    requires head { length head.old ≡ vblock.size }
-    requires room { main.size ≤ vec_capacity body.old }
-    ensures meets { VerifiesSlot (slot_question root.now vblock main stored rollback (F.state flash.old) (H.state hook.old))
+    requires vblock_inside { request.vblock.at + request.vblock.size ≤ (F.state flash.old).medium.size }
+    requires main_inside { request.main.at + request.main.size ≤ (F.state flash.old).medium.size }
+    requires head { length head.old ≡ request.vblock.size }
+    requires room { request.main.size ≤ vec_capacity body.old }
+    ensures meets { VerifiesSlot (slot_question root.now request (F.state flash.old) (H.state hook.old))
         (F.state flash.old) (F.state flash.new) (H.state hook.old) (H.state hook.new) body.new.items result }
     ensures capacity { vec_capacity body.old ≤ vec_capacity body.new }
 {
-    if flash.read(vblock.at, head).is_err() {
+    if flash.read(request.vblock.at, head).is_err() {
         return Err(Failure::Store);
     }
-    let keyblock = match verify_keyblock(hook, root, head, stored, rollback) {
+    let keyblock = match verify_keyblock(hook, root, head, request.stored, request.rollback) {
         Ok(Ok(keyblock)) => keyblock,
         Ok(Err(fault)) => return Ok(Err(SlotFault::Keyblock(fault))),
         Err(Failed) => return Err(Failure::Hook),
     };
     let key = pack(&keyblock.data_key());
     let rest = behind(head, keyblock.size());
-    let preamble = match verify_preamble(hook, &key, rest, stored, rollback) {
+    let preamble = match verify_preamble(hook, &key, rest, request.stored, request.rollback) {
         Ok(Ok(preamble)) => preamble,
         Ok(Err(fault)) => return Ok(Err(SlotFault::Preamble(fault))),
         Err(Failed) => return Err(Failure::Hook),
@@ -62,8 +72,10 @@ fn check_slot<F: Flash, H: Hook>(
         hook,
         &key,
         common.body_signature(),
-        main,
-        body_len,
+        BodyPlace {
+            area: request.main,
+            len: body_len,
+        },
         body,
     ) {
         Ok(None) => Ok(Ok(SlotOk {
@@ -81,31 +93,26 @@ fn check_in_room<F: Flash, H: Hook>(
     flash: &mut F,
     hook: &mut H,
     root: &PackedKey,
-    vblock: Area,
-    main: Area,
-    stored: u32,
-    rollback: bool,
+    request: SlotRequest,
     room: &mut Vec<u8>,
     body: &mut Vec<u8>,
 ) -> Result<Result<SlotOk, SlotFault>, Failure>
-    requires vblock_inside { vblock.at + vblock.size ≤ (F.state flash.old).medium.size }
-    requires main_inside { main.at + main.size ≤ (F.state flash.old).medium.size }
-    requires head { vblock.size ≤ length room.old.items }
-    requires room { main.size ≤ vec_capacity body.old }
-    ensures meets { VerifiesSlot (slot_question root.now vblock main stored rollback (F.state flash.old) (H.state hook.old))
+    requires vblock_inside { request.vblock.at + request.vblock.size ≤ (F.state flash.old).medium.size }
+    requires main_inside { request.main.at + request.main.size ≤ (F.state flash.old).medium.size }
+    requires head { request.vblock.size ≤ length room.old.items }
+    requires room { request.main.size ≤ vec_capacity body.old }
+    ensures meets { VerifiesSlot (slot_question root.now request (F.state flash.old) (H.state hook.old))
         (F.state flash.old) (F.state flash.new) (H.state hook.old) (H.state hook.new) body.new.items result }
     ensures same_length { length room.new.items ≡ length room.old.items }
     ensures capacity { vec_capacity body.old ≤ vec_capacity body.new }
 {
-    let head = &mut room[..vblock.size as usize];
-    check_slot(
-        flash, hook, root, vblock, main, stored, rollback, head, body,
-    )
+    let head = &mut room[..request.vblock.size as usize];
+    check_slot(flash, hook, root, request, head, body)
 }
 
 /// Verifies the slot of which keyblock and preamble stand in one area of the flash and the body in another: `root` is to have
-/// signed the keyblock, and the keyblock's data key the preamble and the body. `stored` is the stored version word, and is
-/// looked at only where `rollback` says so. The areas are those of a map without a fault.
+/// signed the keyblock, and the keyblock's data key the preamble and the body. The stored version word is looked at only where
+/// the request says so. The areas are those of a map without a fault.
 ///
 /// The first area is read with one call, and the body in pieces of at most 65,536 bytes, each hashed as it comes. Of a good
 /// slot the room hands out the body. No memory is taken, and flash and hook keep their content.
@@ -116,29 +123,16 @@ pub fn verify_slot<F: Flash, H: Hook>(
     flash: &mut F,
     hook: &mut H,
     root: &PackedKey,
-    vblock: Area,
-    main: Area,
-    stored: u32,
-    rollback: bool,
+    request: SlotRequest,
     room: &mut SlotRoom,
 ) -> Result<Result<SlotOk, SlotFault>, Failure>
-    requires vblock_inside { vblock.at + vblock.size ≤ (F.state flash.old).medium.size }
-    requires vblock_size { vblock.size ≤ LARGEST_VBLOCK }
-    requires main_inside { main.at + main.size ≤ (F.state flash.old).medium.size }
-    requires main_size { main.size ≤ LARGEST_MAIN }
-    ensures meets { VerifiesSlot (slot_question root.now vblock main stored rollback (F.state flash.old) (H.state hook.old))
+    requires vblock_inside { request.vblock.at + request.vblock.size ≤ (F.state flash.old).medium.size }
+    requires vblock_size { request.vblock.size ≤ LARGEST_VBLOCK }
+    requires main_inside { request.main.at + request.main.size ≤ (F.state flash.old).medium.size }
+    requires main_size { request.main.size ≤ LARGEST_MAIN }
+    ensures meets { VerifiesSlot (slot_question root.now request (F.state flash.old) (H.state hook.old))
         (F.state flash.old) (F.state flash.new) (H.state hook.old) (H.state hook.new) room.new result }
 {
     let head = &mut room.vblock;
-    check_in_room(
-        flash,
-        hook,
-        root,
-        vblock,
-        main,
-        stored,
-        rollback,
-        head,
-        &mut room.body,
-    )
+    check_in_room(flash, hook, root, request, head, &mut room.body)
 }

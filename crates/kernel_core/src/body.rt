@@ -8,7 +8,9 @@ ghost use Rattle.kernel_core.specs.Heads.{IsHeadOf};
 
 use crate::head::{HEAD_SIZE, behind};
 use crate::head_fault::HeadOk;
+use crate::partition::Partition;
 use crate::room::{BodyRoom, LARGEST_BODY, PIECE};
+use crate::signed_body::SignedBody;
 use board_core::{Disk, Failed, Hook};
 use chain_core::{BodyFault, Failure, Hasher};
 use key_core::layout::{KEYBLOCK_DATA_KEY, KEYBLOCK_SIZE};
@@ -105,37 +107,35 @@ fn take_front(vblock: &[u8], at: u32, len: u32, hasher: &mut Hasher, body: &mut 
     count
 }
 
-// Reads `len` bytes from the byte `at` of the partition that begins at the sector `first`, of which `vblock` holds the first
-// ones, as the body, and answers the hasher that has taken them in. The body has room for them, and takes no memory.
+// Reads the body in the partition that begins at the sector `first`, of which `vblock` holds the first bytes, and answers the
+// hasher that has taken it in. `body` has room for it, and takes no memory.
 fn read_body<D: Disk>(
     disk: &mut D,
     first: u64,
-    at: u32,
-    len: u32,
     vblock: &[u8],
-    algorithm: u32,
+    signed: &SignedBody<'_>,
     piece: &mut [u8],
     body: &mut Vec<u8>,
 ) -> Result<Hasher, Failed>
     requires vblock { length vblock.now ≡ HEAD_SIZE }
-    requires front { at ≤ HEAD_SIZE }
-    requires inside { first + HEAD_SECTORS + (at + len - HEAD_SIZE + 511) / 512 ≤ (D.state disk.old).medium.sectors }
-    requires room { len ≤ vec_capacity body.old }
+    requires front { signed.now.at ≤ HEAD_SIZE }
+    requires inside { first + HEAD_SECTORS + (signed.now.at + signed.now.len - HEAD_SIZE + 511) / 512 ≤ (D.state disk.old).medium.sectors }
+    requires room { signed.now.len ≤ vec_capacity body.old }
     requires piece { length piece.old ≡ PIECE }
     requires filled { IsTrue (D.state disk.old).medium.told → vblock.now ≡ range (D.state disk.old).medium.bytes (first * 512) HEAD_SIZE }
-    ensures meets { ReadsKernelBody first at len algorithm (D.state disk.old) (D.state disk.new) body.new.items result }
+    ensures meets { ReadsKernelBody first signed.now.at signed.now.len signed.now.key.now.algorithm (D.state disk.old) (D.state disk.new) body.new.items result }
     ensures capacity { vec_capacity body.old ≤ vec_capacity body.new }
     ensures same_length { length piece.new ≡ length piece.old }
 {
     // No place on a disk wraps.
     let _sectors = disk.sectors();
-    let mut hasher = Hasher::new(algorithm);
+    let mut hasher = Hasher::new(signed.key.algorithm);
     body.clear();
-    let front = take_front(vblock, at, len, &mut hasher, body);
+    let front = take_front(vblock, signed.at, signed.len, &mut hasher, body);
     read_rest(
         disk,
         first + HEAD_SECTORS,
-        len - front,
+        signed.len - front,
         piece,
         &mut hasher,
         body,
@@ -153,46 +153,45 @@ fn most_of(sectors: u64, at: u32) -> u32
     room.min(u64::from(LARGEST_BODY)) as u32
 }
 
-// Checks the body by the data key `key` and its signature.
+// Checks the body in a partition, of which `vblock` holds the first bytes.
 fn check_body<D: Disk, H: Hook>(
     disk: &mut D,
     hook: &mut H,
-    key: &PackedKey,
-    signature: &[u8],
-    first: u64,
-    sectors: u64,
+    partition: Partition,
     vblock: &[u8],
-    at: u32,
-    len: u32,
-    piece: &mut [u8],
-    body: &mut Vec<u8>,
+    signed: &SignedBody<'_>,
+    room: &mut BodyRoom,
 ) -> Result<Option<BodyFault>, Failure>
-    requires sectors { HEAD_SECTORS ≤ sectors }
-    requires inside { first + sectors ≤ (D.state disk.old).medium.sectors }
+    requires sectors { HEAD_SECTORS ≤ partition.sectors }
+    requires inside { partition.first + partition.sectors ≤ (D.state disk.old).medium.sectors }
     requires vblock { length vblock.now ≡ HEAD_SIZE }
-    requires front { at ≤ HEAD_SIZE }
-    requires room { LARGEST_BODY ≤ vec_capacity body.old }
-    requires piece { length piece.old ≡ PIECE }
-    requires algorithm { key.now.algorithm ≤ LAST_ALGORITHM }
-    requires size { key.now.size ≤ LARGEST_KEY }
-    requires filled { IsTrue (D.state disk.old).medium.told → vblock.now ≡ range (D.state disk.old).medium.bytes (first * 512) HEAD_SIZE }
-    ensures meets { ChecksDiskBody key.now signature.now first sectors at len
-        (D.state disk.old) (D.state disk.new) (H.state hook.old) (H.state hook.new) body.new.items result }
-    ensures capacity { vec_capacity body.old ≤ vec_capacity body.new }
-    ensures same_length { length piece.new ≡ length piece.old }
+    requires front { signed.now.at ≤ HEAD_SIZE }
+    requires algorithm { signed.now.key.now.algorithm ≤ LAST_ALGORITHM }
+    requires size { signed.now.key.now.size ≤ LARGEST_KEY }
+    requires filled { IsTrue (D.state disk.old).medium.told
+        → vblock.now ≡ range (D.state disk.old).medium.bytes (partition.first * 512) HEAD_SIZE }
+    ensures meets { ChecksDiskBody signed.now.key.now signed.now.signature.now partition.first partition.sectors signed.now.at signed.now.len
+        (D.state disk.old) (D.state disk.new) (H.state hook.old) (H.state hook.new) room.new result }
 {
     // No place on a disk wraps.
     let _sectors = disk.sectors();
+    let SignedBody {
+        key,
+        signature,
+        at,
+        len,
+    } = *signed;
     if len == 0 {
         return Ok(Some(BodyFault::Empty));
     }
-    if len > most_of(sectors, at) {
+    if len > most_of(partition.sectors, at) {
         return Ok(Some(BodyFault::TooLarge));
     }
     if signature.len() != signature_length(key.algorithm) as usize {
         return Ok(Some(BodyFault::SigSize));
     }
-    let hasher = match read_body(disk, first, at, len, vblock, key.algorithm, piece, body) {
+    let BodyRoom { body, piece } = room;
+    let hasher = match read_body(disk, partition.first, vblock, signed, piece, body) {
         Ok(hasher) => hasher,
         Err(Failed) => return Err(Failure::Store),
     };
@@ -203,8 +202,7 @@ fn check_body<D: Disk, H: Hook>(
     }
 }
 
-/// Verifies the body of the kernel in the partition of `sectors` sectors from `first`: the data key in `vblock` is to have
-/// signed it. `vblock` is what the first 128 sectors of the partition hold, and `head` is the answer of `verify_head` on it.
+/// Verifies the body of the kernel in a partition: the data key in `vblock` is to have signed it. `vblock` is what the first 128 sectors of the partition hold, and `head` is the answer of `verify_head` on it.
 ///
 /// What of the body lies in `vblock` is taken from there, and no sector of the first 128 is read again. The others that it
 /// touches are read once, in pieces of at most 65,536 bytes, each hashed as it comes. Of a good body the room hands out the
@@ -216,18 +214,18 @@ fn check_body<D: Disk, H: Hook>(
 pub fn verify_body<D: Disk, H: Hook>(
     disk: &mut D,
     hook: &mut H,
-    first: u64,
-    sectors: u64,
+    partition: Partition,
     vblock: &[u8],
     head: &HeadOk,
     room: &mut BodyRoom,
 ) -> Result<Option<BodyFault>, Failure>
-    requires sectors { HEAD_SECTORS ≤ sectors }
-    requires inside { first + sectors ≤ (D.state disk.old).medium.sectors }
+    requires sectors { HEAD_SECTORS ≤ partition.sectors }
+    requires inside { partition.first + partition.sectors ≤ (D.state disk.old).medium.sectors }
     requires vblock { length vblock.now ≡ HEAD_SIZE }
     requires head { IsHeadOf vblock.now head.now }
-    requires filled { IsTrue (D.state disk.old).medium.told → vblock.now ≡ range (D.state disk.old).medium.bytes (first * 512) HEAD_SIZE }
-    ensures meets { VerifiesKernelBody vblock.now head.now first sectors
+    requires filled { IsTrue (D.state disk.old).medium.told
+        → vblock.now ≡ range (D.state disk.old).medium.bytes (partition.first * 512) HEAD_SIZE }
+    ensures meets { VerifiesKernelBody vblock.now head.now partition.first partition.sectors
         (D.state disk.old) (D.state disk.new) (H.state hook.old) (H.state hook.new) room.new result }
 {
     let key = pack(&key_at(vblock, KEYBLOCK_DATA_KEY).view(vblock));
@@ -236,17 +234,11 @@ pub fn verify_body<D: Disk, H: Hook>(
         unreachable!()
     };
     let common = preamble.common();
-    check_body(
-        disk,
-        hook,
-        &key,
-        common.body_signature(),
-        first,
-        sectors,
-        vblock,
-        head.body_at,
-        head.body_len,
-        &mut room.piece,
-        &mut room.body,
-    )
+    let signed = SignedBody {
+        key: &key,
+        signature: common.body_signature(),
+        at: head.body_at,
+        len: head.body_len,
+    };
+    check_body(disk, hook, partition, vblock, &signed, room)
 }

@@ -7,10 +7,10 @@ ghost use Rattle.kernel_core.specs.HeadChecks.{head_question, VerifiesHead};
 use crate::head_fault::{HeadFault, HeadOk};
 use crate::keyblock::verify_kernel_keyblock;
 use crate::preamble::verify_kernel_preamble;
-use crate::rules::KernelRules;
+use crate::rules::KernelRequest;
 use board_core::{Disk, Failed, Hook};
 use chain_core::combined_version;
-use key_core::{PackedKey, pack};
+use key_core::pack;
 
 /// The number of bytes at the start of a partition in which keyblock and preamble lie.
 pub const HEAD_SIZE: usize = 65536;
@@ -36,22 +36,23 @@ pub fn read_head<D: Disk>(disk: &mut D, first: u64, vblock: &mut [u8]) -> Result
     disk.read(first, vblock)
 }
 
-/// Verifies the head of a kernel in the first 65,536 bytes of its partition: `key` is to have signed the keyblock, unless
-/// `rules` say that a matching hash is enough, and the keyblock's data key the preamble. The hook keeps its rows.
+/// Verifies the head of a kernel in the first 65,536 bytes of its partition: the key that is asked for is to have signed the
+/// keyblock, unless the rules say that a matching hash is enough, and the keyblock's data key the preamble. The hook keeps its
+/// rows.
 ///
 /// A `HeadFault` is the fault of the keyblock, or else the first line of the kernel preamble table whose test holds.
 /// `Failed`: the hook failed, and its count of faults rose; then nothing else was decided.
 pub fn verify_head<H: Hook>(
     hook: &mut H,
     vblock: &[u8],
-    key: &PackedKey,
-    rules: &KernelRules,
+    request: &KernelRequest,
 ) -> Result<Result<HeadOk, HeadFault>, Failed>
     requires { length vblock.now ≡ HEAD_SIZE }
-    ensures meets { VerifiesHead (head_question vblock.now key.now rules.now (H.state hook.old)) (H.state hook.old)
+    ensures meets { VerifiesHead (head_question vblock.now request.now.key request.now.rules (H.state hook.old)) (H.state hook.old)
         (H.state hook.new) result }
 {
-    let keyblock = match verify_kernel_keyblock(hook, key, vblock, rules) {
+    let rules = &request.rules;
+    let keyblock = match verify_kernel_keyblock(hook, &request.key, vblock, rules) {
         Ok(Ok(keyblock)) => keyblock,
         Ok(Err(fault)) => return Ok(Err(HeadFault::Keyblock(fault))),
         Err(failed) => return Err(failed),

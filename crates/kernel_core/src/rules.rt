@@ -2,6 +2,8 @@
 ghost use Rattle.std.specs.Prelude.{◌≡◌};
 ghost use Rattle.kernel_core.specs.Rules.{hash_is_enough, versions_are_checked, developer_flag, recovery_flag};
 
+use key_core::PackedKey;
+
 /// The mode of a boot that comes to its kernel.
 #[derive(Clone, Copy, Debug, PartialEq, Eq)]
 pub enum BootMode {
@@ -11,6 +13,15 @@ pub enum BootMode {
     Developer,
     /// A kernel of a stick, by the recovery key.
     Recovery,
+}
+
+/// What is asked of a kernel.
+#[derive(Clone, Copy, Debug)]
+pub struct KernelRequest {
+    /// The key that is to have signed its keyblock.
+    pub key: PackedKey,
+    /// What it is held to.
+    pub rules: KernelRules,
 }
 
 /// What a kernel is held to.

@@ -11,6 +11,7 @@ use Rattle.chain_core.specs.declared.fault.BodyFault.{BodyFault}
 use Rattle.kernel_core.specs.Heads.{HeadQuestion, head_fault, head_ok}
 use Rattle.kernel_core.specs.HeadChecks.{head_question}
 use Rattle.kernel_core.specs.KernelBodies.{kernel_body_question}
+use Rattle.kernel_core.specs.declared.rules.KernelRequest.{KernelRequest}
 use Rattle.kernel_core.specs.declared.rules.KernelRules.{KernelRules}
 use Rattle.kernel_core.specs.declared.head_fault.HeadOk.{HeadOk}
 
@@ -21,6 +22,10 @@ pub record Drive : Type 0 where
   pub hook : HookState
   pub key : PackedKey
   pub rules : KernelRules
+
+-- the same of a disk, a hook and a request
+abbrev pub walk_question : DiskState → HookState → KernelRequest → Drive
+walk_question disk hook request = record { disk = disk; hook = hook; key = request.key; rules = request.rules }
 
 -- the bytes that a partition begins with, and what is asked of them
 abbrev pub head_bytes : Drive → (first : ℕ) → List ℕ

@@ -16,6 +16,13 @@ pub const KERNEL_TYPE: [u8; 16] = [
     0x5d, 0x2a, 0x3a, 0xfe, 0x32, 0x4f, 0xa7, 0x41, 0xb7, 0x25, 0xac, 0xcc, 0x32, 0x85, 0xa3, 0x09,
 ];
 
+// Candidates of a table by their ranks, in the order in which they are tried.
+#[derive(Clone, Copy)]
+pub(crate) struct Candidates<'a> {
+    pub(crate) gpt: &'a GptRoom,
+    pub(crate) ranks: &'a [u32],
+}
+
 // Whether a kernel with these attributes may be booted.
 fn may_boot(attributes: u64) -> bool
     ensures { result ≡ spec.may_boot attributes }

@@ -1,5 +1,6 @@
 // What a boot sees on a drive.
 ghost use Rattle.std.specs.Prelude.{◌≡◌, length};
+ghost use Rattle.walk_core.specs.Kernels.{walk_question};
 ghost use Rattle.walk_core.specs.Seen.{Sees};
 
 use crate::walked::Walked;
@@ -7,8 +8,7 @@ use crate::walking::walk;
 use board_core::{Disk, Failed, Hook};
 use chain_core::Failure;
 use gpt_core::{Found, GptRoom, read_table};
-use kernel_core::{BodyRoom, HEAD_SIZE, KernelRules};
-use key_core::PackedKey;
+use kernel_core::{BodyRoom, HEAD_SIZE, KernelRequest};
 
 /// What is seen on a drive.
 #[derive(Clone, Copy, Debug, PartialEq, Eq)]
@@ -38,12 +38,11 @@ pub fn see<D: Disk, H: Hook>(
     gpt: &mut GptRoom,
     vblock: &mut [u8],
     body: &mut BodyRoom,
-    key: &PackedKey,
-    rules: &KernelRules,
+    request: &KernelRequest,
 ) -> Result<Seen, Failure>
     requires size { length vblock.old ≡ HEAD_SIZE }
     requires settled { (D.state disk.old).medium.pending ≡ 0 }
-    ensures meets { Sees (record { disk = D.state disk.old; hook = H.state hook.old; key = key.now; rules = rules.now }) gpt.new
+    ensures meets { Sees (walk_question (D.state disk.old) (H.state hook.old) request.now) gpt.new
         (D.state disk.new) (H.state hook.new) body.new result }
 {
     match read_table(disk, gpt) {
@@ -51,7 +50,7 @@ pub fn see<D: Disk, H: Hook>(
         Ok(_) => (),
         Err(Failed) => return Err(Failure::Store),
     }
-    match walk(disk, hook, gpt, vblock, body, key, rules) {
+    match walk(disk, hook, gpt, vblock, body, request) {
         Ok(walked) => Ok(Seen::Table {
             walked,
             changed: gpt.changed(),

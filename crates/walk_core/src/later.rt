@@ -1,17 +1,16 @@
 // The candidates behind the chosen one.
 ghost use Rattle.std.specs.Prelude.{◌≡◌, length};
 ghost use Rattle.gpt_core.specs.Format.{IsValidTable};
+ghost use Rattle.walk_core.specs.Kernels.{walk_question};
 ghost use Rattle.walk_core.specs.Chosen.{later_count_by};
 ghost use Rattle.walk_core.specs.Steps.{noted, none_later, AreCandidates, CountsLater, LooksLater};
 
-use crate::candidates::CANDIDATES;
+use crate::candidates::{CANDIDATES, Candidates};
 use crate::examine::examine_head;
 use crate::first::partition_of;
 use board_core::{Disk, Hook};
 use chain_core::Failure;
-use gpt_core::GptRoom;
-use kernel_core::{BootMode, HEAD_SIZE, HeadOk, KernelRules};
-use key_core::PackedKey;
+use kernel_core::{BootMode, HEAD_SIZE, HeadOk, KernelRequest, KernelRules};
 
 // What is known of the candidates behind the chosen one: the least version of those with a good head and of the chosen one,
 // and of each entry whether its head is bad.
@@ -53,57 +52,53 @@ fn later_count(rules: &KernelRules, version: u32) -> bool
     }
 }
 
-// Examines the heads of the candidates of these ranks.
+// Examines the heads of these candidates.
 fn count_later<D: Disk, H: Hook>(
     disk: &mut D,
     hook: &mut H,
-    gpt: &GptRoom,
-    ranks: &[u32],
+    candidates: &Candidates<'_>,
     version: u32,
     vblock: &mut [u8],
-    key: &PackedKey,
-    rules: &KernelRules,
+    request: &KernelRequest,
 ) -> Result<Later, Failure>
     requires size { length vblock.old ≡ HEAD_SIZE }
-    requires valid { IsValidTable gpt.now.sectors gpt.now.table }
-    requires same_disk { gpt.now.sectors ≡ (D.state disk.old).medium.sectors }
-    requires candidates { AreCandidates gpt.now.table.entries ranks.now }
+    requires valid { IsValidTable candidates.now.gpt.now.sectors candidates.now.gpt.now.table }
+    requires same_disk { candidates.now.gpt.now.sectors ≡ (D.state disk.old).medium.sectors }
+    requires candidates { AreCandidates candidates.now.gpt.now.table.entries candidates.now.ranks.now }
     ensures meets { CountsLater
-        (record { disk = D.state disk.old; hook = H.state hook.old; key = key.now; rules = rules.now })
-        gpt.now.table.entries ranks.now version (D.state disk.new) (H.state hook.new) result }
+        (walk_question (D.state disk.old) (H.state hook.old) request.now)
+        candidates.now.gpt.now.table.entries candidates.now.ranks.now version (D.state disk.new) (H.state hook.new) result }
 {
     let mut later = Later::none(version);
-    for place in 0..ranks.len() {
-        let (first, sectors) = partition_of(gpt, ranks[place]);
-        match examine_head(disk, hook, first, sectors, vblock, key, rules) {
-            Ok(head) => later.note(ranks[place], head),
+    for place in 0..candidates.ranks.len() {
+        let partition = partition_of(candidates.gpt, candidates.ranks[place]);
+        match examine_head(disk, hook, partition, vblock, request) {
+            Ok(head) => later.note(candidates.ranks[place], head),
             Err(failure) => return Err(failure),
         }
     }
     Ok(later)
 }
 
-// Examines the heads of the candidates of these ranks, which stand behind the chosen one of this version, where they count.
+// Examines the heads of these candidates, which stand behind the chosen one of this version, where they count.
 pub(crate) fn later_heads<D: Disk, H: Hook>(
     disk: &mut D,
     hook: &mut H,
-    gpt: &GptRoom,
-    ranks: &[u32],
+    candidates: &Candidates<'_>,
     version: u32,
     vblock: &mut [u8],
-    key: &PackedKey,
-    rules: &KernelRules,
+    request: &KernelRequest,
 ) -> Result<Later, Failure>
     requires size { length vblock.old ≡ HEAD_SIZE }
-    requires valid { IsValidTable gpt.now.sectors gpt.now.table }
-    requires same_disk { gpt.now.sectors ≡ (D.state disk.old).medium.sectors }
-    requires candidates { AreCandidates gpt.now.table.entries ranks.now }
+    requires valid { IsValidTable candidates.now.gpt.now.sectors candidates.now.gpt.now.table }
+    requires same_disk { candidates.now.gpt.now.sectors ≡ (D.state disk.old).medium.sectors }
+    requires candidates { AreCandidates candidates.now.gpt.now.table.entries candidates.now.ranks.now }
     ensures meets { LooksLater
-        (record { disk = D.state disk.old; hook = H.state hook.old; key = key.now; rules = rules.now })
-        gpt.now.table.entries ranks.now version (D.state disk.new) (H.state hook.new) result }
+        (walk_question (D.state disk.old) (H.state hook.old) request.now)
+        candidates.now.gpt.now.table.entries candidates.now.ranks.now version (D.state disk.new) (H.state hook.new) result }
 {
-    if !later_count(rules, version) {
-        return Ok(Later::none(rules.stored));
+    if !later_count(&request.rules, version) {
+        return Ok(Later::none(request.rules.stored));
     }
-    count_later(disk, hook, gpt, ranks, version, vblock, key, rules)
+    count_later(disk, hook, candidates, version, vblock, request)
 }

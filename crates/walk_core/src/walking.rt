@@ -1,10 +1,11 @@
 // The walk over the kernels of a drive.
 ghost use Rattle.std.specs.Prelude.{◌≡◌, length};
 ghost use Rattle.gpt_core.specs.Format.{IsValidTable};
+ghost use Rattle.walk_core.specs.Kernels.{walk_question};
 ghost use Rattle.walk_core.specs.Steps.{entry_at};
 ghost use Rattle.walk_core.specs.Walks.{kernel_for, Walks};
 
-use crate::candidates::{CANDIDATES, candidates_in_order};
+use crate::candidates::{CANDIDATES, Candidates, candidates_in_order};
 use crate::fates::mark;
 use crate::first::first_good;
 use crate::later::later_heads;
@@ -12,8 +13,7 @@ use crate::walked::{Kernel, Walked};
 use board_core::{Disk, Hook};
 use chain_core::Failure;
 use gpt_core::GptRoom;
-use kernel_core::{BodyRoom, HEAD_SIZE, HeadOk, KernelRules};
-use key_core::PackedKey;
+use kernel_core::{BodyRoom, HEAD_SIZE, HeadOk, KernelRequest};
 
 /// Chooses the kernel of a drive, of which the room holds a table that can stand on it: the good candidate than which no good candidate is
 /// earlier. Then `body` hands out its body. In normal mode, where its version is over the stored one, the heads of the later
@@ -32,40 +32,34 @@ pub fn walk<D: Disk, H: Hook>(
     gpt: &mut GptRoom,
     vblock: &mut [u8],
     body: &mut BodyRoom,
-    key: &PackedKey,
-    rules: &KernelRules,
+    request: &KernelRequest,
 ) -> Result<Walked, Failure>
     requires size { length vblock.old ≡ HEAD_SIZE }
     requires valid { IsValidTable gpt.old.sectors gpt.old.table }
     requires same_disk { gpt.old.sectors ≡ (D.state disk.old).medium.sectors }
     ensures meets { Walks
-        (record { disk = D.state disk.old; hook = H.state hook.old; key = key.now; rules = rules.now })
+        (walk_question (D.state disk.old) (H.state hook.old) request.now)
         gpt.old gpt.new (D.state disk.new) (H.state hook.new) body.new result }
 {
     let candidates = candidates_in_order(gpt);
     let ranks = candidates.as_slice();
-    let taken = match first_good(disk, hook, gpt, ranks, vblock, body, key, rules) {
+    let all = Candidates { gpt, ranks };
+    let taken = match first_good(disk, hook, &all, vblock, body, request) {
         Ok(Some(taken)) => taken,
         Ok(None) => {
             mark(gpt, None, &[false; CANDIDATES]);
             return Ok(Walked {
                 chosen: None,
-                lowest: rules.stored,
+                lowest: request.rules.stored,
             });
         }
         Err(failure) => return Err(failure),
     };
-    let behind = &ranks[taken.place + 1..];
-    let later = match later_heads(
-        disk,
-        hook,
+    let behind = Candidates {
         gpt,
-        behind,
-        taken.head.version,
-        vblock,
-        key,
-        rules,
-    ) {
+        ranks: &ranks[taken.place + 1..],
+    };
+    let later = match later_heads(disk, hook, &behind, taken.head.version, vblock, request) {
         Ok(later) => later,
         Err(failure) => return Err(failure),
     };

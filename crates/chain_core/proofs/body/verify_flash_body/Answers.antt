@@ -18,27 +18,27 @@ said g c heard is = said_of _ _ _ _ _ (g.H.Hook.state c.args.hook.now) (g.H.Hook
 
 -- and so the last line decides
 found : (g : Over) (c : After-verify g) (heard : Bool) → c.verify.result ≡ Ok heard → IsTrue (g.F.Flash.state c.args.flash.now).medium.told → IsTrue (g.H.Hook.state c.args.hook.now).told
-    → first_fault body_table (body_question c.args.key.now c.args.signature.now c.args.main c.args.len (g.F.Flash.state c.args.flash.now) (g.H.Hook.state c.args.hook.now)) ≡ cond (not heard) (Some faults.Refused) None
+    → first_fault body_table (body_question c.args.key.now c.args.signature.now c.args.place.area c.args.place.len (g.F.Flash.state c.args.flash.now) (g.H.Hook.state c.args.hook.now)) ≡ cond (not heard) (Some faults.Refused) None
 found g c heard is told told' =
-    last_line _ heard c.if-len-eq0.false c.if-len-main.false (c.if-signature-signature_length.false ∙ c.signature_length.ensures)
-    (says_front (g.H.Hook.state c.args.hook.now) c.args.key.now c.args.signature.now _ c.args.main c.args.len (g.F.Flash.state c.args.flash.now) heard c.if-len-main.false (c.in-Ok.ensures.meets.filled told) ((said g c heard is).says told'))
+    last_line _ heard c.if-place-eq0.false c.if-place.false (c.if-signature-signature_length.false ∙ c.signature_length.ensures)
+    (says_front (g.H.Hook.state c.args.hook.now) c.args.key.now c.args.signature.now _ c.args.place.area c.args.place.len (g.F.Flash.state c.args.flash.now) heard c.if-place.false (c.in-Ok.ensures.meets.filled told) ((said g c heard is).says told'))
 
-pub returns-then-len-eq0-clause-meets : goal.returns-then-len-eq0-clause-meets
-returns-then-len-eq0-clause-meets g c = body_unread _ _ _ _ _ _ _ _ (empty_fault _ c.if-len-eq0.true)
+pub returns-then-place-eq0-clause-meets : goal.returns-then-place-eq0-clause-meets
+returns-then-place-eq0-clause-meets g c = body_unread _ _ _ _ _ _ _ _ (empty_fault _ c.if-place-eq0.true)
 
-pub returns-then-len-main-clause-meets : goal.returns-then-len-main-clause-meets
-returns-then-len-main-clause-meets g c = body_unread _ _ _ _ _ _ _ _ (large_fault _ c.if-len-eq0.false c.if-len-main.true)
+pub returns-then-place-clause-meets : goal.returns-then-place-clause-meets
+returns-then-place-clause-meets g c = body_unread _ _ _ _ _ _ _ _ (large_fault _ c.if-place-eq0.false c.if-place.true)
 
 pub returns-then-signature-signature_length-clause-meets : goal.returns-then-signature-signature_length-clause-meets
 returns-then-signature-signature_length-clause-meets g c =
-    body_unread _ _ _ _ _ _ _ _ (size_fault _ c.if-len-eq0.false c.if-len-main.false (λ e. c.if-signature-signature_length.true (e ∙ sym c.signature_length.ensures)))
+    body_unread _ _ _ _ _ _ _ _ (size_fault _ c.if-place-eq0.false c.if-place.false (λ e. c.if-signature-signature_length.true (e ∙ sym c.signature_length.ensures)))
 
 pub returns-in-Ok-true-clause-meets : goal.returns-in-Ok-true-clause-meets
 returns-in-Ok-true-clause-meets g c =
     let c' = (goal.at.returns-in-Ok-true-clause-meets g c).After-verify in
     let is = c.in-Ok-true.is ∙ ap Ok c.in-Ok-true.field-0-test in
     let read = c.in-Ok.ensures.meets in
-    body_good _ _ _ _ _ _ _ _ _ read.looks (said g c' true is).asked (found g c' true is) c.if-len-main.false read.many read.filled
+    body_good _ _ _ _ _ _ _ _ _ read.looks (said g c' true is).asked (found g c' true is) c.if-place.false read.many read.filled
 
 pub returns-in-Ok-false-clause-meets : goal.returns-in-Ok-false-clause-meets
 returns-in-Ok-false-clause-meets g c =

@@ -21,19 +21,19 @@ use Rattle.chain_core.proofs.slot.check_slot.Goals.{After-verify_keyblock, In-Ok
 
 -- ---- what the calls found, as far as each
 
-read : (g : Over) (c : After-verify_keyblock g) → HeadRead c.args.vblock c.read.new.buf (g.F.Flash.state c.args.flash.now) (g.F.Flash.state c.read.new.self)
-read g c = head_read c.args.vblock c.read.new.buf _ _ c.read.result c.read.ensures.meets (sym c.is_err.ensures.value ∙ c.if-is_err.false) (omega arith)
+read : (g : Over) (c : After-verify_keyblock g) → HeadRead c.args.request.vblock c.read.new.buf (g.F.Flash.state c.args.flash.now) (g.F.Flash.state c.read.new.self)
+read g c = head_read c.args.request.vblock c.read.new.buf _ _ c.read.result c.read.ensures.meets (sym c.is_err.ensures.value ∙ c.if-is_err.false) (omega arith)
 
-good : (g : Over) (c : In-Ok-Ok g) → GoodKeyblock c.read.new.buf c.args.root.now c.args.stored c.args.rollback (g.H.Hook.state c.args.hook.now) (g.H.Hook.state c.verify_keyblock.new.hook) c.in-Ok-Ok.keyblock
+good : (g : Over) (c : In-Ok-Ok g) → GoodKeyblock c.read.new.buf c.args.root.now c.args.request.stored c.args.request.rollback (g.H.Hook.state c.args.hook.now) (g.H.Hook.state c.verify_keyblock.new.hook) c.in-Ok-Ok.keyblock
 good g c = good_keyblock _ _ _ _ _ _ _ _ _ c.verify_keyblock.ensures.meets c.in-Ok-Ok.is c.in-Ok-Ok.field-0-is
 
 abbrev opening : (g : Over) → After-verify_preamble g → KeyblockStep
 opening g c =
-    let q = slot_question c.args.root.now c.args.vblock c.args.main c.args.stored c.args.rollback (g.F.Flash.state c.args.flash.now) (g.H.Hook.state c.args.hook.now) in
+    let q = slot_question c.args.root.now c.args.request (g.F.Flash.state c.args.flash.now) (g.H.Hook.state c.args.hook.now) in
     keyblock_step (with_head q c.read.new.buf) (g.H.Hook.state c.args.hook.now) (g.H.Hook.state c.verify_keyblock.new.hook) c.in-Ok-Ok.keyblock c.pack-key.result c.behind-rest.result.now
 
 opened : (g : Over) (c : After-verify_preamble g)
-    → GoodKeyblock c.read.new.buf c.args.root.now c.args.stored c.args.rollback (g.H.Hook.state c.args.hook.now) (g.H.Hook.state c.verify_keyblock.new.hook) c.in-Ok-Ok.keyblock → Opened (opening g c)
+    → GoodKeyblock c.read.new.buf c.args.root.now c.args.request.stored c.args.request.rollback (g.H.Hook.state c.args.hook.now) (g.H.Hook.state c.verify_keyblock.new.hook) c.in-Ok-Ok.keyblock → Opened (opening g c)
 opened g c good = record {
   good = good;
   rows = refl;
@@ -43,13 +43,13 @@ opened g c good = record {
 
 abbrev body_step : (g : Over) → After-verify_flash_body g → BodyStep
 body_step g c =
-    let q = slot_question c.args.root.now c.args.vblock c.args.main c.args.stored c.args.rollback (g.F.Flash.state c.args.flash.now) (g.H.Hook.state c.args.hook.now) in
+    let q = slot_question c.args.root.now c.args.request (g.F.Flash.state c.args.flash.now) (g.H.Hook.state c.args.hook.now) in
     record {
       before = record {
         before = keyblock_step (with_head q c.read.new.buf) (g.H.Hook.state c.args.hook.now) (g.H.Hook.state c.verify_keyblock.new.hook) c.in-Ok-Ok.keyblock c.pack-key.result c.behind-rest.result.now;
         hook = g.H.Hook.state c.verify_preamble.new.hook;
         preamble = c.in-Ok-Ok-verify_preamble.preamble;
-        main = c.args.main;
+        main = c.args.request.main;
         flash = g.F.Flash.state c.read.new.self;
       };
       hook = g.H.Hook.state c.verify_flash_body.new.hook;
@@ -60,14 +60,14 @@ body_step g c =
       out = c.verify_flash_body.new.body.items;
     }
 
-ended : (g : Over) (c : After-verify_flash_body g) (answer : Result (Option BodyFault) Failure) → HeadRead c.args.vblock c.read.new.buf (body_step g c).flash (body_step g c).before.flash → Opened (body_step g c).before.before
+ended : (g : Over) (c : After-verify_flash_body g) (answer : Result (Option BodyFault) Failure) → HeadRead c.args.request.vblock c.read.new.buf (body_step g c).flash (body_step g c).before.flash → Opened (body_step g c).before.before
     → c.verify_flash_body.result ≡ answer → Ended (body_step g c) answer
 ended g c answer head opened is =
     ended_of (body_step g c) c.verify_flash_body.result answer (record {
       ready = record {
         opened = opened;
         good = good_preamble _ _ _ _ _ _ _ _ _ c.verify_preamble.ensures.meets c.in-Ok-Ok-verify_preamble.is c.in-Ok-Ok-verify_preamble.field-0-is;
-        area = ap (λ (m : FlashMedium). area_bytes c.args.main m) (sym head.looks.medium);
+        area = ap (λ (m : FlashMedium). area_bytes c.args.request.main m) (sym head.looks.medium);
       };
       checks = c.verify_flash_body.ensures.meets;
       looks = head.looks;

@@ -5,53 +5,61 @@ use Rattle.wire_core.specs.FirstFault.{first_fault}
 use Rattle.chain_core.specs.Accepted.{key_of}
 use Rattle.chain_core.specs.Tables.{body_table}
 use Rattle.chain_core.specs.declared.fault.BodyFault.TheVariants as faults
-use Rattle.chain_core.proofs.Said.{Said, said_of}
+use Rattle.chain_core.specs.declared.fault.Failure.TheVariants.{Hook}
+use Rattle.chain_core.proofs.Said.{Said, said_of, failed_of}
 use Rattle.chain_core.proofs.BodyAnswers.{empty_fault, large_fault, size_fault, last_line}
 use Rattle.kernel_core.specs.KernelBodies.{disk_body_question, most_of}
-use Rattle.kernel_core.proofs.KernelBodyAnswers.{looks_exact, rest_inside, disk_body_fault, disk_body_unread, disk_body_good, says_body}
+use Rattle.kernel_core.proofs.KernelBodyAnswers.{looks_exact, rest_inside, disk_body_fault, disk_body_unread, disk_body_failed, disk_body_good, says_body}
 use Rattle.kernel_core.proofs.body.check_body.Given.{Over}
 use Rattle.kernel_core.proofs.body.check_body.Goals as goal
-use Rattle.kernel_core.proofs.body.check_body.Goals.{After-verify}
+use Rattle.kernel_core.proofs.body.check_body.Goals.{After-verify, in-Ok-true, in-Ok-false, in-Err-verify}
 
 -- what the hook said
-said : (g : Over) (c : After-verify g) (heard : Bool) → c.verify.result ≡ Ok heard → Said (key_of c.args.key.now) c.read_body.new.body.items c.args.signature.now (g.H.Hook.state c.args.hook.now) (g.H.Hook.state c.verify.new.hook) heard
+said : (g : Over) (c : After-verify g) (heard : Bool) → c.verify.result ≡ Ok heard → Said (key_of c.args.signed.now.key.now) c.read_body.new.body.items c.args.signed.now.signature.now (g.H.Hook.state c.args.hook.now) (g.H.Hook.state c.verify.new.hook) heard
 said g c heard is = said_of _ _ _ _ _ (g.H.Hook.state c.args.hook.now) (g.H.Hook.state c.verify.new.hook) _ heard refl refl (c.verify.ensures.meets c.read_body.new.body.items c.in-Ok.ensures.meets.hashed) is
 
-fits : (g : Over) (c : After-verify g) → c.args.len ≤ most_of c.args.sectors c.args.at
+fits : (g : Over) (c : After-verify g) → c.args.signed.now.len ≤ most_of c.args.partition.sectors c.args.signed.now.at
 fits g c = omega (arith, c.if-len-most_of.false, c.most_of.ensures)
 
 -- and so the last line decides
 found : (g : Over) (c : After-verify g) (heard : Bool) → c.verify.result ≡ Ok heard → IsTrue (g.D.Disk.state c.args.disk.now).medium.told → IsTrue (g.H.Hook.state c.args.hook.now).told
-    → first_fault body_table (disk_body_question c.args.key.now c.args.signature.now c.args.first c.args.sectors c.args.at c.args.len (g.D.Disk.state c.args.disk.now) (g.H.Hook.state c.args.hook.now)) ≡ cond (not heard) (Some faults.Refused) None
+    → first_fault body_table (disk_body_question c.args.signed.now.key.now c.args.signed.now.signature.now c.args.partition.first c.args.partition.sectors c.args.signed.now.at c.args.signed.now.len (g.D.Disk.state c.args.disk.now) (g.H.Hook.state c.args.hook.now)) ≡ cond (not heard) (Some faults.Refused) None
 found g c heard is told told' =
     last_line _ heard c.if-len-eq0.false (fits g c) (c.if-signature-signature_length.false ∙ c.signature_length.ensures)
-    (says_body (g.H.Hook.state c.args.hook.now) c.args.key.now c.args.signature.now _ _ c.args.first c.args.sectors c.args.at c.args.len heard c.requires.sectors c.requires.front (fits g c) (c.in-Ok.ensures.meets.filled told) ((said g c heard is).says told'))
+    (says_body (g.H.Hook.state c.args.hook.now) c.args.signed.now.key.now c.args.signed.now.signature.now _ _ c.args.partition.first c.args.partition.sectors c.args.signed.now.at c.args.signed.now.len heard c.requires.sectors c.requires.front (fits g c) (c.in-Ok.ensures.meets.filled told) ((said g c heard is).says told'))
 
-pub returns-then-len-eq0-clause-meets : goal.returns-then-len-eq0-clause-meets
-returns-then-len-eq0-clause-meets g c = disk_body_unread _ _ _ _ _ _ _ _ _ _ (empty_fault _ c.if-len-eq0.true)
+pub returns-then-len-eq0 : goal.returns-then-len-eq0
+returns-then-len-eq0 g c = record { meets = disk_body_unread _ _ _ _ _ _ _ _ _ _ (empty_fault _ c.if-len-eq0.true) }
 
-pub returns-then-len-most_of-clause-meets : goal.returns-then-len-most_of-clause-meets
-returns-then-len-most_of-clause-meets g c = disk_body_unread _ _ _ _ _ _ _ _ _ _ (large_fault _ c.if-len-eq0.false (omega (arith, c.if-len-most_of.true, c.most_of.ensures)))
+pub returns-then-len-most_of : goal.returns-then-len-most_of
+returns-then-len-most_of g c =
+    record { meets = disk_body_unread _ _ _ _ _ _ _ _ _ _ (large_fault _ c.if-len-eq0.false (omega (arith, c.if-len-most_of.true, c.most_of.ensures))) }
 
-pub returns-then-signature-signature_length-clause-meets : goal.returns-then-signature-signature_length-clause-meets
-returns-then-signature-signature_length-clause-meets g c =
-    let fits : c.args.len ≤ most_of c.args.sectors c.args.at = omega (arith, c.if-len-most_of.false, c.most_of.ensures) in
-    disk_body_unread _ _ _ _ _ _ _ _ _ _ (size_fault _ c.if-len-eq0.false fits (λ e. c.if-signature-signature_length.true (e ∙ sym c.signature_length.ensures)))
+pub returns-then-signature-signature_length : goal.returns-then-signature-signature_length
+returns-then-signature-signature_length g c =
+    let fits : c.args.signed.now.len ≤ most_of c.args.partition.sectors c.args.signed.now.at = omega (arith, c.if-len-most_of.false, c.most_of.ensures) in
+    record { meets = disk_body_unread _ _ _ _ _ _ _ _ _ _ (size_fault _ c.if-len-eq0.false fits (λ e. c.if-signature-signature_length.true (e ∙ sym c.signature_length.ensures))) }
 
 pub read_body-requires-clause-inside : goal.read_body-requires-clause-inside
 read_body-requires-clause-inside g c =
-    let fits : c.args.len ≤ most_of c.args.sectors c.args.at = omega (arith, c.if-len-most_of.false, c.most_of.ensures) in
-    rest_inside c.args.first c.args.sectors c.args.at c.args.len _ c.requires.sectors c.requires.front fits c.requires.inside
+    let fits : c.args.signed.now.len ≤ most_of c.args.partition.sectors c.args.signed.now.at = omega (arith, c.if-len-most_of.false, c.most_of.ensures) in
+    rest_inside c.args.partition.first c.args.partition.sectors c.args.signed.now.at c.args.signed.now.len _ c.requires.sectors c.requires.front fits c.requires.inside
 
-pub returns-in-Ok-true-clause-meets : goal.returns-in-Ok-true-clause-meets
-returns-in-Ok-true-clause-meets g c =
-    let c' = (goal.at.returns-in-Ok-true-clause-meets g c).After-verify in
-    let is = c.in-Ok-true.is ∙ ap Ok c.in-Ok-true.field-0-test in
+pub returns : goal.returns
+returns g c =
+    let c' = (goal.at.returns g c).After-verify in
     let read = c.in-Ok.ensures.meets in
-    disk_body_good _ _ _ _ _ _ _ _ _ _ _ (looks_exact _ _ _ _ _ _ (fits g c') read.looks) (said g c' true is).asked (found g c' true is) (fits g c') read.many read.filled
-
-pub returns-in-Ok-false-clause-meets : goal.returns-in-Ok-false-clause-meets
-returns-in-Ok-false-clause-meets g c =
-    let c' = (goal.at.returns-in-Ok-false-clause-meets g c).After-verify in
-    let is = c.in-Ok-false.is ∙ ap Ok c.in-Ok-false.field-0-test in
-    disk_body_fault _ _ _ _ _ _ _ _ _ _ _ _ (looks_exact _ _ _ _ _ _ (fits g c') c.in-Ok.ensures.meets.looks) (said g c' false is).asked (found g c' false is)
+    elim c.match-verify.branch [
+      | in-Ok-true w ↦
+          let is = w.in-Ok-true.is ∙ ap Ok w.in-Ok-true.field-0-test in
+          let asked = (said g c' true is).asked in
+          rw w.result-is (record { meets = disk_body_good _ _ _ _ _ _ _ _ _ _ _ (looks_exact _ _ _ _ _ _ (fits g c') read.looks) asked (found g c' true is) (fits g c') read.many read.filled })
+      | in-Ok-false w ↦
+          let is = w.in-Ok-false.is ∙ ap Ok w.in-Ok-false.field-0-test in
+          let asked = (said g c' false is).asked in
+          rw w.result-is (record { meets = disk_body_fault _ _ _ _ _ _ _ _ _ _ _ _ (looks_exact _ _ _ _ _ _ (fits g c') read.looks) asked (found g c' false is) })
+      | in-Err-verify w ↦
+          let said = c.verify.ensures.meets c.read_body.new.body.items read.hashed in
+          let asked = failed_of _ _ c.verify.result _ said.asked w.in-Err-verify.is in
+          rw w.result-is (record { meets = disk_body_failed _ _ _ _ _ _ _ _ _ _ _ Hook (looks_exact _ _ _ _ _ _ (fits g c') read.looks) asked })
+    ]

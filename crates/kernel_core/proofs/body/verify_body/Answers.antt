@@ -1,5 +1,5 @@
 -- The data key and the signature are those of the head, so its body is checked.
-use Rattle.std.proofs.Common.{◌≡◌, ◌∙◌, ◌≤◌, ℕ, List, ap, subst, length, drop, ◌++◌, arith, length-append, length-take, length-drop}
+use Rattle.std.proofs.Common.{◌≡◌, ◌∙◌, ◌≤◌, ℕ, List, ap, subst, length, drop, arith}
 use Rattle.key_core.specs.Parts.{Key, key_in}
 use Rattle.preamble_core.specs.Common.{CommonPreamble, body_signature_of}
 use Rattle.preamble_core.specs.Kernel.{KernelPreamble, kernel_preamble_in}
@@ -18,19 +18,6 @@ check_body-requires-clause-size g c =
     let most : length (head_key vblock).bytes ≤ 2056 = usable_fits (head_key vblock) c.requires.head.key in
     omega (arith, size, most)
 
-pub invariant_of-room : goal.invariant_of-room
-invariant_of-room g c = record {
-  body_fits = omega (arith, c.check_body.ensures.capacity, c.room.invariant.body_fits);
-  piece_is =
-      let new = c.check_body.new.piece in
-      let old = c.room.inside.piece.items in
-      let same : length new ≡ length old = c.check_body.ensures.same_length ∙ ap (λ (xs : List ℕ). length xs) c.deref_mut.ensures.value in
-      let all = length-append new (drop (length new) old) in
-      let rest = length-drop (length new) old in
-      let front = length-take c.room.inside.piece.len (new ++ drop (length new) old) in
-      omega (arith, same, all, rest, front, c.room.invariant.piece_is, c.deref_mut.ensures.len, c.check_body.ensures.same_length);
-}
-
 pub returns : goal.returns
 returns g c =
     let vblock = c.args.vblock.now in
@@ -47,6 +34,6 @@ returns g c =
           ∙ ap (λ (xs : List ℕ). (body_signature_of kinds.Kernel xs).size) rest;
     } in
     record {
-      meets = body_of_head vblock c.args.head.now packed c.body_signature.result.now c.args.first c.args.sectors (g.D.Disk.state c.args.disk.now) (g.D.Disk.state c.check_body.new.disk) (g.H.Hook.state c.args.hook.now) (g.H.Hook.state c.check_body.new.hook)
-          c.check_body.new.body.items c.check_body.result c.requires.head c.requires.vblock c.requires.sectors taken c.check_body.ensures.meets;
+      meets = body_of_head vblock c.args.head.now packed c.body_signature.result.now c.args.partition.first c.args.partition.sectors (g.D.Disk.state c.args.disk.now) (g.D.Disk.state c.check_body.new.disk) (g.H.Hook.state c.args.hook.now) (g.H.Hook.state c.check_body.new.hook)
+          c.check_body.new.room c.check_body.result c.requires.head c.requires.vblock c.requires.sectors taken c.check_body.ensures.meets;
     }

@@ -16,14 +16,14 @@ use Rattle.kernel_core.proofs.head.verify_head.Goals.{In-Ok-Ok, After-verify_ker
 
 -- ---- what the calls found, as far as each
 
-good : (g : Over) (c : In-Ok-Ok g) → GoodKeyblock c.args.vblock.now c.args.key.now c.args.rules.now (g.H.Hook.state c.args.hook.now) (g.H.Hook.state c.verify_kernel_keyblock.new.hook) c.in-Ok-Ok.keyblock
+good : (g : Over) (c : In-Ok-Ok g) → GoodKeyblock c.args.vblock.now c.args.request.now.key c.args.request.now.rules (g.H.Hook.state c.args.hook.now) (g.H.Hook.state c.verify_kernel_keyblock.new.hook) c.in-Ok-Ok.keyblock
 good g c = good_keyblock _ _ _ _ _ _ _ _ c.verify_kernel_keyblock.ensures.meets c.in-Ok-Ok.is c.in-Ok-Ok.field-0-is
 
 abbrev step : (g : Over) → After-verify_kernel_preamble g → HeadStep
 step g c = record {
   vblock = c.args.vblock.now;
-  key = c.args.key.now;
-  rules = c.args.rules.now;
+  key = c.args.request.now.key;
+  rules = c.args.request.now.rules;
   checked = c.versions_are_checked-checked.result;
   hook = g.H.Hook.state c.args.hook.now;
   hook' = g.H.Hook.state c.verify_kernel_keyblock.new.hook;
@@ -33,7 +33,7 @@ step g c = record {
 }
 
 opened : (g : Over) (c : After-verify_kernel_preamble g)
-    → GoodKeyblock c.args.vblock.now c.args.key.now c.args.rules.now (g.H.Hook.state c.args.hook.now) (g.H.Hook.state c.verify_kernel_keyblock.new.hook) c.in-Ok-Ok.keyblock → Opened (step g c)
+    → GoodKeyblock c.args.vblock.now c.args.request.now.key c.args.request.now.rules (g.H.Hook.state c.args.hook.now) (g.H.Hook.state c.verify_kernel_keyblock.new.hook) c.in-Ok-Ok.keyblock → Opened (step g c)
 opened g c good = record {
   good = good;
   checked = c.versions_are_checked-checked.ensures;
@@ -42,7 +42,7 @@ opened g c good = record {
 }
 
 found : (g : Over) (c : In-Ok-Ok-verify_kernel_preamble g)
-    → ChecksPreamble {E = Failed} kernel_preamble c.behind-rest.result.now c.pack-data_key.result c.args.rules.now.stored c.versions_are_checked-checked.result (g.H.Hook.state c.verify_kernel_keyblock.new.hook) (g.H.Hook.state c.verify_kernel_preamble.new.hook) (Ok (Ok c.in-Ok-Ok-verify_kernel_preamble.preamble))
+    → ChecksPreamble {E = Failed} kernel_preamble c.behind-rest.result.now c.pack-data_key.result c.args.request.now.rules.stored c.versions_are_checked-checked.result (g.H.Hook.state c.verify_kernel_keyblock.new.hook) (g.H.Hook.state c.verify_kernel_preamble.new.hook) (Ok (Ok c.in-Ok-Ok-verify_kernel_preamble.preamble))
 found g c = preamble_answer kernel_preamble _ _ _ _ _ _ _ _ c.verify_kernel_preamble.ensures.meets (c.in-Ok-Ok-verify_kernel_preamble.is ∙ ap Ok c.in-Ok-Ok-verify_kernel_preamble.field-0-is)
 
 -- ---- goals

@@ -2,7 +2,7 @@
 use Rattle.std.proofs.Common.{◌≡◌, ℕ, ◌+◌, ◌<◌, Option, Result, Some, Ok, List, length, drop, replicate, true, false, ap, sym, subst, ◌∙◌}
 use Rattle.chain_core.specs.declared.fault.Failure.{Failure}
 use Rattle.walk_core.specs.Candidates.{is_candidate, AreInOrder}
-use Rattle.walk_core.specs.Kernels.{Drive}
+use Rattle.walk_core.specs.Kernels.{walk_question}
 use Rattle.walk_core.specs.Walks.{Walks}
 use Rattle.walk_core.specs.Steps.{entry_in_order, FindsFirst, LooksLater}
 use Rattle.walk_core.specs.declared.first.Taken.{Taken}
@@ -15,7 +15,7 @@ use Rattle.walk_core.proofs.walking.walk.Goals as goal
 
 pub returns-in-Ok-None : goal.returns-in-Ok-None
 returns-in-Ok-None g c =
-    let d : Drive = record { disk = g.D.Disk.state c.args.disk.now; hook = g.H.Hook.state c.args.hook.now; key = c.args.key.now; rules = c.args.rules.now } in
+    let d = walk_question (g.D.Disk.state c.args.disk.now) (g.H.Hook.state c.args.hook.now) c.args.request.now in
     let entries = c.args.gpt.now.table.entries in
     let ranks = c.as_slice-ranks.result.now in
     let disk' = g.D.Disk.state c.first_good.new.disk in
@@ -27,7 +27,7 @@ returns-in-Ok-None g c =
 
 pub returns-in-Err : goal.returns-in-Err
 returns-in-Err g c =
-    let d : Drive = record { disk = g.D.Disk.state c.args.disk.now; hook = g.H.Hook.state c.args.hook.now; key = c.args.key.now; rules = c.args.rules.now } in
+    let d = walk_question (g.D.Disk.state c.args.disk.now) (g.H.Hook.state c.args.hook.now) c.args.request.now in
     let entries = c.args.gpt.now.table.entries in
     let ranks = c.as_slice-ranks.result.now in
     let disk' = g.D.Disk.state c.first_good.new.disk in
@@ -47,7 +47,7 @@ later_heads-requires-clause-candidates g c =
 
 pub returns-in-Err-later_heads : goal.returns-in-Err-later_heads
 returns-in-Err-later_heads g c =
-    let d : Drive = record { disk = g.D.Disk.state c.args.disk.now; hook = g.H.Hook.state c.args.hook.now; key = c.args.key.now; rules = c.args.rules.now } in
+    let d = walk_question (g.D.Disk.state c.args.disk.now) (g.H.Hook.state c.args.hook.now) c.args.request.now in
     let entries = c.args.gpt.now.table.entries in
     let ranks = c.as_slice-ranks.result.now in
     let taken : Taken = c.in-Ok-Some.taken in
@@ -64,7 +64,7 @@ returns-in-Err-later_heads g c =
 
 pub mark-requires-2-clause-chosen : goal.mark-requires-2-clause-chosen
 mark-requires-2-clause-chosen g c =
-    let d : Drive = record { disk = g.D.Disk.state c.args.disk.now; hook = g.H.Hook.state c.args.hook.now; key = c.args.key.now; rules = c.args.rules.now } in
+    let d = walk_question (g.D.Disk.state c.args.disk.now) (g.H.Hook.state c.args.hook.now) c.args.request.now in
     let entries = c.args.gpt.now.table.entries in
     let ranks = c.as_slice-ranks.result.now in
     let disk' = g.D.Disk.state c.first_good.new.disk in
@@ -76,7 +76,7 @@ mark-requires-2-clause-chosen g c =
 
 pub returns : goal.returns
 returns g c =
-    let d : Drive = record { disk = g.D.Disk.state c.args.disk.now; hook = g.H.Hook.state c.args.hook.now; key = c.args.key.now; rules = c.args.rules.now } in
+    let d = walk_question (g.D.Disk.state c.args.disk.now) (g.H.Hook.state c.args.hook.now) c.args.request.now in
     let entries = c.args.gpt.now.table.entries in
     let ranks = c.as_slice-ranks.result.now in
     let taken : Taken = c.in-Ok-Some.taken in

@@ -1,5 +1,5 @@
 -- The table of a keyblock, line group by line group.
-use Rattle.std.proofs.Common.{◌≡◌, ℕ, Bool, true, false, cond, not, Some, None, List, ◌++◌, length, refl, ap, sym, ◌∙◌, ◌==◌}
+use Rattle.std.proofs.Common.{◌≡◌, ℕ, Bool, true, false, cond, not, Some, None, List, ◌++◌, length, take, refl, ap, sym, ◌∙◌, ◌==◌}
 use Rattle.wire_core.specs.FirstFault.{Table, first_fault}
 use Rattle.wire_core.proofs.FirstFault.{first_fault-append, first_fault-append_some}
 use Rattle.key_core.specs.Algorithms.{signature_length}
@@ -9,7 +9,7 @@ use Rattle.key_core.specs.declared.fault.KeyblockFault.{KeyblockFault}
 use Rattle.key_core.specs.declared.fault.KeyblockFault.TheVariants as keyblock_faults
 use Rattle.chain_core.specs.Accepted.{key_of, is_enrolled}
 use Rattle.preamble_core.specs.Lines.{lifted}
-use Rattle.chain_core.specs.Tables.{KeyblockQuestion, keyblock_of, signer_lines, seal_lines, data_key_lines, signer_question, data_key_question, DataKeyQuestion, keyblock_table}
+use Rattle.chain_core.specs.Tables.{KeyblockQuestion, keyblock_of, signer_lines, seal_lines, data_key_lines, signer_question, data_key_question, DataKeyQuestion, keyblock_table, keyblock_front}
 use Rattle.chain_core.specs.Checking.{view_question}
 use Rattle.preamble_core.proofs.Lifted.{lifted-none, lifted-some, is_other, is_same}
 
@@ -95,6 +95,19 @@ pub seal_size_fault : (q : KeyblockQuestion) (keyblock : Keyblock) → Viewed q 
 seal_size_fault q keyblock viewed signer other =
     seal_at q keyblock_faults.SealSize viewed.none signer
     (two_size (seal_of seals.Signature q.bytes).size (signature_length q.signer.algorithm) (is_enrolled q.rows (key_of q.signer) (keyblock_of q).signed (keyblock_of q).seal_bytes) keyblock_faults.SealSize keyblock_faults.Refused (λ e. other (viewed.seal_size ∙ e)))
+
+abbrev size_part : Table KeyblockQuestion KeyblockFault
+size_part = take 1 seal_lines
+
+-- then no line before that of the signature holds
+pub no_front : (q : KeyblockQuestion) (keyblock : Keyblock) → Viewed q keyblock → first_fault signer_lines (signer_question q) ≡ None
+    → length keyblock.seal_bytes ≡ signature_length q.signer.algorithm → first_fault keyblock_front q ≡ None
+unfolding keyblock_table keyblock_front
+no_front q keyblock viewed signer size =
+    let same = sym viewed.seal_size ∙ size in
+    first_fault-append view_lines (signer_part ++ size_part) q (no_view q viewed.none)
+    ∙ first_fault-append signer_part size_part q (no_signer q signer)
+    ∙ ap (λ t. cond t (Some keyblock_faults.SealSize) None) (is_same (seal_of seals.Signature q.bytes).size (signature_length q.signer.algorithm) same)
 
 -- The seal has the right size, and the hook said this.
 pub record Answered (q : KeyblockQuestion) (keyblock : Keyblock) (said : Bool) : Type 0 where

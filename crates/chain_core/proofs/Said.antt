@@ -1,11 +1,11 @@
 -- What a hook said of a message and a signature.
-use Rattle.std.proofs.Common.{◌≡◌, Bool, true, false, List, ℕ, Result, Ok, Err, refl, ap, subst, ◌∙◌, arith}
-use Rattle.std.specs.Prelude.{IsTrue, is_err}
+use Rattle.std.proofs.Common.{◌≡◌, Bool, true, false, List, ℕ, Option, Some, None, Result, Ok, Err, refl, sym, ap, subst, ◌∙◌, arith}
+use Rattle.std.specs.Prelude.{IsTrue, is_err, is_some, OnErr}
 use Rattle.std.proofs.lemmas.Result.{IfOk-at_ok}
 use Rattle.std.proofs.lemmas.Bool.{false≢true}
 use Rattle.board_core.specs.Hook.{HookState}
 use Rattle.key_core.specs.Parts.{Key}
-use Rattle.chain_core.specs.Accepted.{Asked, AsksFor, is_enrolled}
+use Rattle.chain_core.specs.Accepted.{Asked, AsksBehind, AsksFor, is_enrolled}
 
 -- no call at all
 pub asked_none : (a : HookState) → Asked a a false
@@ -28,6 +28,24 @@ asked_then a b c failed first second =
       told = second.told ∙ first.told;
       rows = second.rows ∙ first.rows;
     }
+
+-- no call, where a line before that of the signature holds
+pub behind_none : {Fault Answer E : Type 0} (front : Option Fault) (a : HookState) (answer : Answer) → AsksBehind {E = E} front a a (Ok answer)
+behind_none front a answer = record { unasked = λ some. refl; failed = tt }
+
+on_err : {Answer E : Type 0} (P : Type 0) (result : Result Answer E) → P → OnErr result P
+on_err P (Ok answer) holds = tt
+on_err P (Err e) holds = holds
+
+-- calls, where none of these lines holds
+pub behind_all : {Fault Answer E : Type 0} (front : Option Fault) (old new : HookState) (result : Result Answer E) → front ≡ None → AsksBehind front old new result
+behind_all {Fault} front old new result none =
+    record { unasked = λ some. absurd (false≢true (ap is_some (sym none) ∙ some)); failed = on_err (front ≡ None) result none }
+
+-- a call that failed was made behind these lines
+pub front_none : {Fault Answer E : Type 0} (front : Option Fault) (old new : HookState) (result : Result Answer E) (e : E)
+    → AsksBehind front old new result → result ≡ Err e → front ≡ None
+front_none {Fault} {Answer} {E} front old new result e behind is = subst (λ (r : Result Answer E). OnErr r (front ≡ None)) is behind.failed
 
 -- what a hook holds is told after the call too
 pub told_then : (old new : HookState) → Asked old new false → IsTrue old.told → IsTrue new.told

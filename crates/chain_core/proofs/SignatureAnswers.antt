@@ -7,13 +7,14 @@ use Rattle.wire_core.proofs.FirstFault.{first_fault-append, first_fault-append_s
 use Rattle.board_core.specs.Hook.{HookState}
 use Rattle.key_core.specs.Algorithms.{signature_length}
 use Rattle.key_core.specs.declared.key.PackedKey.{PackedKey}
-use Rattle.chain_core.specs.Accepted.{Asked, is_enrolled}
+use Rattle.chain_core.specs.Accepted.{Asked, AsksBehind, is_enrolled}
 use Rattle.preamble_core.specs.Lines.{lifted}
-use Rattle.chain_core.specs.Tables.{PreambleQuestion, SignatureQuestion, signature_lines, combined_version}
+use Rattle.chain_core.specs.Tables.{PreambleQuestion, SignatureQuestion, signature_lines, signature_front, combined_version}
 use Rattle.chain_core.specs.Checking.{signature_question, ChecksSignature}
 use Rattle.preamble_core.specs.Common.{CommonPreamble}
 use Rattle.preamble_core.specs.declared.fault.KernelPreambleFault.{KernelPreambleFault}
 use Rattle.preamble_core.specs.declared.fault.KernelPreambleFault.TheVariants as faults
+use Rattle.chain_core.proofs.Said.{behind_all, front_none}
 use Rattle.chain_core.proofs.FourLines.{of_tests, by_first, by_second, by_third, by_last}
 use Rattle.preamble_core.proofs.Lifted.{named, lifted-is, lifted-some, lifted-none, lifted-back, append-none, is_other, is_same, over}
 
@@ -62,18 +63,25 @@ pub last_line : (q : SignatureQuestion) (said old : Bool) → Answered q said �
 last_line q said old answered e fits is =
     by_tests q ∙ by_last _ _ _ _ (size_test q) (refused_test q) (range_test q) (old_test q) old (size_right q said answered) (refused_is q said answered ∙ ap not e) (le-ltb 65535 q.preamble.version fits) is
 
+-- then the line before that of the signature does not hold
+pub no_front : (q : SignatureQuestion) → q.signature_size ≡ signature_length q.key.algorithm → first_fault signature_front q ≡ None
+no_front q size = ap (λ t. cond t (Some faults.SigSize) None) (is_same q.signature_size (signature_length q.key.algorithm) size)
+
 -- ---- answers
 
 pub signature_found : {E : Type 0} (q : SignatureQuestion) (old new : HookState) (fault : KernelPreambleFault) → Asked old new false
+    → AsksBehind {Answer = Option KernelPreambleFault} {E = E} (first_fault signature_front q) old new (Ok (Some fault))
     → (IsTrue old.told → first_fault signature_lines q ≡ Some fault) → ChecksSignature {E = E} q old new (Ok (Some fault))
-signature_found q old new fault asked found = record { asked = asked; fault = λ told. sym (found told); version = λ none. absurd cc }
+signature_found q old new fault asked behind found = record { asked = asked; behind = behind; fault = λ told. sym (found told); version = λ none. absurd cc }
 
-pub signature_good : {E : Type 0} (q : SignatureQuestion) (old new : HookState) → Asked old new false → (IsTrue old.told → first_fault signature_lines q ≡ None)
+pub signature_good : {E : Type 0} (q : SignatureQuestion) (old new : HookState) → Asked old new false → first_fault signature_front q ≡ None → (IsTrue old.told → first_fault signature_lines q ≡ None)
     → q.preamble.version ≤ 65535 → ChecksSignature {E = E} q old new (Ok None)
-signature_good q old new asked none fits = record { asked = asked; fault = λ told. sym (none told); version = λ is. fits }
+signature_good q old new asked front none fits =
+    record { asked = asked; behind = behind_all _ old new (Ok None) front; fault = λ told. sym (none told); version = λ is. fits }
 
-pub signature_failed : {E : Type 0} (q : SignatureQuestion) (old new : HookState) (e : E) → Asked old new true → ChecksSignature {E = E} q old new (Err e)
-signature_failed q old new e asked = record { asked = asked; fault = λ told. tt; version = tt }
+pub signature_failed : {E : Type 0} (q : SignatureQuestion) (old new : HookState) (e : E) → Asked old new true → first_fault signature_front q ≡ None → ChecksSignature {E = E} q old new (Err e)
+signature_failed q old new e asked front =
+    record { asked = asked; behind = behind_all _ old new (Err e) front; fault = λ told. tt; version = tt }
 
 -- what was answered, of a preamble that is the one of the call
 pub found_of : {E : Type 0} (preamble preamble' : CommonPreamble) (key : PackedKey) (stored : ℕ) (rollback : Bool) (old new : HookState)
@@ -83,6 +91,15 @@ pub found_of : {E : Type 0} (preamble preamble' : CommonPreamble) (key : PackedK
 found_of {E} preamble preamble' key stored rollback old new result found same checks is =
     subst (λ (p : CommonPreamble). ChecksSignature {E = E} (signature_question p key stored rollback old) old new (Ok found)) same
     (subst (λ (r : Result (Option KernelPreambleFault) E). ChecksSignature (signature_question preamble key stored rollback old) old new r) is checks)
+
+-- and where the hook failed, behind which line it was asked
+pub front_failed : {E : Type 0} (preamble preamble' : CommonPreamble) (key : PackedKey) (stored : ℕ) (rollback : Bool) (old new : HookState)
+    (result : Result (Option KernelPreambleFault) E) (e : E) → preamble ≡ preamble'
+    → ChecksSignature (signature_question preamble key stored rollback old) old new result → result ≡ Err e
+    → first_fault signature_front (signature_question preamble' key stored rollback old) ≡ None
+front_failed preamble preamble' key stored rollback old new result e same checks is =
+    subst (λ (p : CommonPreamble). first_fault signature_front (signature_question p key stored rollback old) ≡ None) same
+    (front_none _ old new result e checks.behind is)
 
 -- ---- the table of a preamble, whose last lines they are
 
@@ -97,14 +114,15 @@ bytes_fault {Fault} lines further q fault e =
     first_fault-append_some (lifted bytes_of same lines) further q fault (lifted-some bytes_of same lines q fault e)
 
 -- where they show none, the lines on the signature decide
-pub by_signature : {Fault : Type 0} (lines : Table (List ℕ) Fault) (asked : PreambleQuestion → SignatureQuestion) (name : KernelPreambleFault → Fault) (q : PreambleQuestion) (read : SignatureQuestion)
+pub by_signature : {Fault : Type 0} (lines : Table (List ℕ) Fault) (last : Table SignatureQuestion KernelPreambleFault)
+    (asked : PreambleQuestion → SignatureQuestion) (name : KernelPreambleFault → Fault) (q : PreambleQuestion) (read : SignatureQuestion)
     → first_fault lines q.bytes ≡ None → read ≡ asked q
-    → first_fault (lifted (λ q. q.bytes) (λ fault. fault) lines ++ lifted asked name signature_lines) q ≡ named name (first_fault signature_lines read)
-by_signature {Fault} lines asked name q read e is =
+    → first_fault (lifted (λ q. q.bytes) (λ fault. fault) lines ++ lifted asked name last) q ≡ named name (first_fault last read)
+by_signature {Fault} lines last asked name q read e is =
     let same : Fault → Fault = λ fault. fault in
-    first_fault-append (lifted bytes_of same lines) (lifted asked name signature_lines) q (lifted-none bytes_of same lines q e)
-    ∙ lifted-is asked name signature_lines q
-    ∙ ap (λ (s : SignatureQuestion). named name (first_fault signature_lines s)) (sym is)
+    first_fault-append (lifted bytes_of same lines) (lifted asked name last) q (lifted-none bytes_of same lines q e)
+    ∙ lifted-is asked name last q
+    ∙ ap (λ (s : SignatureQuestion). named name (first_fault last s)) (sym is)
 
 -- and where the preamble has no fault, they find none
 pub no_signature_fault : {Fault : Type 0} (lines : Table (List ℕ) Fault) (asked : PreambleQuestion → SignatureQuestion) (name : KernelPreambleFault → Fault) (q : PreambleQuestion)

@@ -1,5 +1,5 @@
 -- When a signature is accepted, and what it is to ask a hook for it.
-use Rattle.std.specs.Prelude.{◌≡◌, ℕ, ◌≤◌, List, length, take, nat_eq, ◌==◌, ◌&&◌, Any, Bool, false, IsTrue, Result, is_err, IfOk}
+use Rattle.std.specs.Prelude.{◌≡◌, ℕ, ◌≤◌, List, length, take, nat_eq, ◌==◌, ◌&&◌, Any, Bool, false, IsTrue, Option, None, IsSome, Result, is_err, IfOk, OnErr}
 use Rattle.std.specs.List.{list_any}
 use Rattle.std.specs.Cmp.Lexicographic.{pointwise}
 use Rattle.sha2.specs.Sha256.{sha256}
@@ -60,6 +60,13 @@ pub record Asked (old new : HookState) (failed : Bool) : Type 0 where
   -- the hook holds what it held
   pub told : new.told ≡ old.told
   pub rows : new.rows ≡ old.rows
+
+-- Calls that ask a hook for a signature behind other lines of a table. `front` is the first of these whose test holds, if any.
+pub record AsksBehind {Fault Answer E : Type 0} (front : Option Fault) (old new : HookState) (result : Result Answer E) : Type 0 where
+  -- where one of them holds, the hook is not asked
+  pub unasked : IsSome front → new ≡ old
+  -- and a call that failed hides none of them
+  pub failed : OnErr result (front ≡ None)
 
 -- The call to ask whether a signature of a message by a key is enrolled.
 pub record AsksFor {E : Type 0} (key : Key) (message signature : List ℕ) (old new : HookState) (result : Result Bool E) : Type 0 where

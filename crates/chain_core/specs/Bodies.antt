@@ -7,8 +7,8 @@ use Rattle.key_core.specs.declared.key.PackedKey.{PackedKey}
 use Rattle.rom_core.specs.Gbb.{Looks, area_bytes}
 use Rattle.rom_core.specs.declared.area.Area.{Area}
 use Rattle.chain_core.specs.Hashing.{HoldsMessage}
-use Rattle.chain_core.specs.Accepted.{Asked, key_of}
-use Rattle.chain_core.specs.Tables.{BodyQuestion, body_table}
+use Rattle.chain_core.specs.Accepted.{Asked, AsksBehind, key_of}
+use Rattle.chain_core.specs.Tables.{BodyQuestion, body_table, body_front}
 use Rattle.chain_core.specs.declared.fault.BodyFault.{BodyFault}
 use Rattle.chain_core.specs.declared.fault.Failure.{Failure}
 use Rattle.chain_core.specs.declared.fault.Failure.TheVariants.{Store, Hook}
@@ -81,6 +81,8 @@ pub record ChecksBody (key : PackedKey) (signature : List ℕ) (main : Area) (le
   -- a flash or a hook that failed counted it once, and both hold what they held
   pub looks : Looks flash flash' (store_failed result)
   pub asked : Asked hook hook' (hook_failed result)
+  -- the hook is asked only where no line before that of the signature holds
+  pub behind : AsksBehind (first_fault body_front (body_question key signature main len flash hook)) hook hook' result
   -- the answer is the first fault of the table
   pub fault : IsTrue flash.medium.told → IsTrue hook.told → IfOk result (λ fault.
       fault ≡ first_fault body_table (body_question key signature main len flash hook))

@@ -9,8 +9,9 @@ use Rattle.key_core.specs.declared.keyblock.Seal.TheVariants as seals
 use Rattle.key_core.specs.declared.fault.KeyblockFault.{KeyblockFault}
 use Rattle.preamble_core.specs.Common.{CommonPreamble}
 use Rattle.preamble_core.specs.declared.fault.KernelPreambleFault.{KernelPreambleFault}
-use Rattle.chain_core.specs.Accepted.{Asked, key_of}
-use Rattle.chain_core.specs.Tables.{KeyblockQuestion, keyblock_table, PreambleQuestion, SignatureQuestion, signature_lines, Form, table_of}
+use Rattle.chain_core.specs.Accepted.{Asked, AsksBehind, key_of}
+use Rattle.chain_core.specs.Tables.{KeyblockQuestion, keyblock_table, keyblock_front, PreambleQuestion}
+use Rattle.chain_core.specs.Tables.{SignatureQuestion, signature_lines, signature_front, Form, table_of, front_of}
 use Rattle.chain_core.specs.Tables.{DataKeyQuestion, data_key_lines}
 
 -- what is asked of the keyblock that these bytes begin, of a hook
@@ -38,6 +39,8 @@ pub record ChecksKeyblock {E : Type 0} (bytes : List ℕ) (signer : PackedKey) (
     (old new : HookState) (result : Result (Result Keyblock KeyblockFault) E) : Type 0 where
   -- a hook that failed counted it once, and it holds what it held
   pub asked : Asked old new (is_err result)
+  -- it is asked only where no line before that of the signature holds
+  pub behind : AsksBehind (first_fault keyblock_front (keyblock_question bytes signer stored rollback old)) old new result
   -- a fault is the first of the table
   pub fault : IsTrue old.told → IfOk result (λ answer. IfErr answer (λ fault.
       first_fault keyblock_table (keyblock_question bytes signer stored rollback old) ≡ Some fault))
@@ -82,6 +85,8 @@ pub record ChecksSignature {E : Type 0} (q : SignatureQuestion)
     (old new : HookState) (result : Result (Option KernelPreambleFault) E) : Type 0 where
   -- a hook that failed counted it once, and it holds what it held
   pub asked : Asked old new (is_err result)
+  -- it is asked only where the line before that of the signature does not hold
+  pub behind : AsksBehind (first_fault signature_front q) old new result
   -- the answer is the first fault of the lines
   pub fault : IsTrue old.told → IfOk result (λ found. found ≡ first_fault signature_lines q)
   -- where it is none, the version fits 16 bits, told or not
@@ -92,6 +97,8 @@ pub record ChecksPreamble {E Preamble Fault : Type 0} (form : Form Preamble Faul
     (stored : ℕ) (rollback : Bool) (old new : HookState) (result : Result (Result Preamble Fault) E) : Type 0 where
   -- a hook that failed counted it once, and it holds what it held
   pub asked : Asked old new (is_err result)
+  -- it is asked only where no line before that of the signature holds
+  pub behind : AsksBehind (first_fault (front_of form) (preamble_question bytes key stored rollback old)) old new result
   -- a fault is the first of the table
   pub fault : IsTrue old.told → IfOk result (λ answer. IfErr answer (λ fault.
       first_fault (table_of form) (preamble_question bytes key stored rollback old) ≡ Some fault))

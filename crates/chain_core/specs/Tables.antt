@@ -94,6 +94,10 @@ keyblock_table =
     ++ (seal_lines
     ++ lifted data_key_question (λ fault. fault) data_key_lines))
 
+-- the lines that come before that of the signature: lines 1 to 12
+unfoldable pub keyblock_front : Table KeyblockQuestion KeyblockFault
+keyblock_front = take 12 keyblock_table
+
 -- ---- a preamble
 
 -- what is asked of a preamble: the bytes that it begins, the rows of the hook, the data key, the stored version of key and
@@ -138,6 +142,10 @@ signature_lines =
     ∷ line preamble_faults.Rollback (λ q. q.rollback && nat_lt (combined_version q.key.version q.preamble.version) q.stored)
     ∷ []
 
+-- the line that comes before that of the signature
+abbrev pub signature_front : Table SignatureQuestion KernelPreambleFault
+signature_front = take 1 signature_lines
+
 -- A form of preamble: its kind, the lines of its table that look at the bytes alone, the names of the lines of both tables in
 -- it, its parts in the bytes, what it has in common with the other form, how long its parts are, and that they are signed.
 pub record Form (Preamble Fault : Type 0) : Type 1 where
@@ -152,6 +160,10 @@ pub record Form (Preamble Fault : Type 0) : Type 1 where
 -- the table of a form: the lines that look at the bytes alone, and the last four
 unfoldable pub table_of : {Preamble Fault : Type 0} → Form Preamble Fault → Table PreambleQuestion Fault
 table_of form = lifted (λ q. q.bytes) (λ fault. fault) form.lines ++ lifted (asked_of_signature form.kind) form.name signature_lines
+
+-- its lines that come before that of the signature
+unfoldable pub front_of : {Preamble Fault : Type 0} → Form Preamble Fault → Table PreambleQuestion Fault
+front_of form = lifted (λ q. q.bytes) (λ fault. fault) form.lines ++ lifted (asked_of_signature form.kind) form.name signature_front
 
 -- a firmware preamble, of which lines 1 to 8 look at the bytes alone
 abbrev pub firmware_preamble : Form FwPreamble FwPreambleFault
@@ -188,3 +200,7 @@ body_table =
     ∷ line body_faults.SigSize (λ q. not (q.signature_size == signature_length q.key.algorithm))
     ∷ line body_faults.Refused (λ q. not (is_enrolled q.rows q.key (take q.len q.bytes) q.signature))
     ∷ []
+
+-- the lines that come before that of the signature: lines 1 to 3
+unfoldable pub body_front : Table BodyQuestion BodyFault
+body_front = take 3 body_table

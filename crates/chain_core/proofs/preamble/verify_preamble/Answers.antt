@@ -5,8 +5,8 @@ use Rattle.board_core.specs.declared.device.Failed.{Failed}
 use Rattle.preamble_core.specs.Firmware.{FwPreamble}
 use Rattle.chain_core.specs.Tables.{firmware_preamble}
 use Rattle.chain_core.specs.Checking.{signature_question, ChecksSignature}
-use Rattle.chain_core.proofs.Said.{asked_none, failed_of}
-use Rattle.chain_core.proofs.SignatureAnswers.{found_of}
+use Rattle.chain_core.proofs.Said.{asked_none, behind_none, failed_of}
+use Rattle.chain_core.proofs.SignatureAnswers.{found_of, front_failed}
 use Rattle.chain_core.proofs.PreambleAnswers.{Viewed, view_fault, preamble_fault, preamble_failed, signature_shown, preamble_good}
 use Rattle.chain_core.proofs.preamble.verify_preamble.Given.{Over}
 use Rattle.chain_core.proofs.preamble.verify_preamble.Goals as goal
@@ -26,7 +26,7 @@ pub returns-in-Err : goal.returns-in-Err
 returns-in-Err g c =
     let old = g.H.Hook.state c.args.hook.now in
     record {
-      meets = preamble_fault firmware_preamble _ _ _ _ old old c.in-Err.fault (asked_none old) (λ told.
+      meets = preamble_fault firmware_preamble _ _ _ _ old old c.in-Err.fault (asked_none old) (behind_none _ old _) (λ told.
           view_fault firmware_preamble _ c.in-Err.fault c.in-Err.ensures.fault);
     }
 
@@ -39,9 +39,11 @@ found g c = found_of _ _ _ _ _ _ _ _ _ c.common.ensures c.signature_fault.ensure
 
 pub returns-in_err-found : goal.returns-in_err-found
 returns-in_err-found g c =
+    let at = goal.at.returns-in_err-found g c in
     let left = err_from_is_err_and c.from_residual.result c.from_residual.ensures.1 in
+    let front = front_failed _ _ _ _ _ _ _ _ _ c.common.ensures c.signature_fault.ensures.meets c.in_err-found.was in
     let failed = failed_of _ _ _ _ c.signature_fault.ensures.meets.asked c.in_err-found.was in
-    record { meets = rw left.1 (preamble_failed firmware_preamble _ _ _ _ _ _ left.0 failed) }
+    record { meets = rw left.1 (preamble_failed firmware_preamble _ _ _ _ _ _ _ left.0 failed (viewed g at.In-Ok) front) }
 
 pub returns-in-Some : goal.returns-in-Some
 returns-in-Some g c =

@@ -1,4 +1,4 @@
--- The text and the exit status of each answer.
+-- The text and the status of each answer, and the exit status of the program at each.
 use Rattle.std.specs.Prelude.{ℕ, Bool, true, false, List, [], ◌∷◌, ◌++◌, codes, decimal, Option, Some, None}
 use Rattle.fwsel_core.specs.declared.slot.Slot.{Slot}
 use Rattle.fwsel_core.specs.declared.slot.Slot.TheVariants.{A, B}
@@ -22,6 +22,8 @@ use Rattle.command_core.specs.declared.answer.Answer.{Answer}
 use Rattle.command_core.specs.declared.answer.Answer.TheVariants as answer
 use Rattle.command_core.specs.declared.answer.CgptRefusal.{CgptRefusal}
 use Rattle.command_core.specs.declared.answer.CgptRefusal.TheVariants as refusal
+use Rattle.command_core.specs.declared.answer.Status.{Status}
+use Rattle.command_core.specs.declared.answer.Status.TheVariants as status
 
 -- a line with its end
 abbrev pub line_of : List ℕ → List ℕ
@@ -112,35 +114,53 @@ text_of answer.OutOfMemory = line_of (codes "out of memory")
 text_of (answer.Unopened (CannotOpen file)) = line_of (codes "cannot open " ++ file_name file)
 text_of (answer.Unopened Memory) = line_of (codes "out of memory")
 
--- ---- the exit status
+-- ---- the status
 
-abbrev pub device_code : Device → ℕ
-device_code device.Flash = 5
-device_code device.Tpm = 6
-device_code device.Disk = 7
-device_code device.Stick = 7
-device_code device.Hook = 8
+abbrev pub device_status : Device → Status
+device_status device.Flash = status.FlashFault
+device_status device.Tpm = status.TpmFault
+device_status device.Disk = status.DriveFault
+device_status device.Stick = status.DriveFault
+device_status device.Hook = status.HookFault
 
-abbrev pub outcome_code : Outcome → ℕ
-outcome_code (outcome.HandOver hand) = 0
-outcome_code outcome.DevEnabled = 0
-outcome_code (outcome.Reboot reason subcode requested) = 2
-outcome_code (outcome.Screen reason subcode) = 3
-outcome_code (outcome.BadFlash fault) = 11
+abbrev pub outcome_status : Outcome → Status
+outcome_status (outcome.HandOver hand) = status.Done
+outcome_status outcome.DevEnabled = status.Done
+outcome_status (outcome.Reboot reason subcode requested) = status.Reboot
+outcome_status (outcome.Screen reason subcode) = status.Screen
+outcome_status (outcome.BadFlash fault) = status.BadFlash
 
-abbrev pub code_of : Answer → ℕ
-code_of answer.Usage = 1
-code_of (answer.Booted outcome) = outcome_code outcome
-code_of (answer.Faulted fault) = device_code fault.device
-code_of (answer.Failed device) = device_code device
-code_of (answer.BadFlash fault) = 11
-code_of (answer.RefusedCgpt why) = 14
-code_of answer.OutOfMemory = 15
-code_of (answer.Unopened Memory) = 15
-code_of (answer.WrongSize device) = 16
-code_of answer.HookFull = 16
-code_of (answer.Unopened (CannotOpen file)) = 17
-code_of answer.CgptNotBuilt = 19
+abbrev pub status_of : Answer → Status
+status_of answer.Usage = status.Usage
+status_of (answer.Booted outcome) = outcome_status outcome
+status_of (answer.Faulted fault) = device_status fault.device
+status_of (answer.Failed device) = device_status device
+status_of (answer.BadFlash fault) = status.BadFlash
+status_of (answer.RefusedCgpt why) = status.RefusedCgpt
+status_of answer.OutOfMemory = status.NoMemory
+status_of (answer.Unopened Memory) = status.NoMemory
+status_of (answer.WrongSize device) = status.RefusedMake
+status_of answer.HookFull = status.RefusedMake
+status_of (answer.Unopened (CannotOpen file)) = status.CannotOpen
+status_of answer.CgptNotBuilt = status.NotBuilt
+
+-- the number that the program exits with
+abbrev pub exit_code : Status → ℕ
+exit_code status.Done = 0
+exit_code status.Usage = 1
+exit_code status.Reboot = 2
+exit_code status.Screen = 3
+exit_code status.FlashFault = 5
+exit_code status.TpmFault = 6
+exit_code status.DriveFault = 7
+exit_code status.HookFault = 8
+exit_code status.SinkFault = 9
+exit_code status.BadFlash = 11
+exit_code status.RefusedCgpt = 14
+exit_code status.NoMemory = 15
+exit_code status.RefusedMake = 16
+exit_code status.CannotOpen = 17
+exit_code status.NotBuilt = 19
 
 -- ---- words that are refused
 

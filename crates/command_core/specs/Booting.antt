@@ -1,23 +1,25 @@
 -- What the command that boots does, and how it ends.
-use Rattle.std.specs.Prelude.{◌≡◌, ◌⊎◌, ℕ, true, IsTrue, Result, Ok, Err}
-use Rattle.board_core.specs.declared.counters.Counters.{Counters}
+use Rattle.std.specs.Prelude.{◌≡◌, ◌⊎◌, ℕ, Bool, true, false, IsTrue, Result, Ok, Err}
+use Rattle.board_core.specs.declared.device.Device.{Device}
 use Rattle.board_core.specs.declared.device.Device.TheVariants as device
 use Rattle.board_core.specs.declared.device.Fault.{Fault}
-use Rattle.board_core.specs.Counters.{raised, Observed}
+use Rattle.board_core.specs.Counters.{CountsFaults, Observed}
+use Rattle.board_core.specs.Fault.{same_device}
 use Rattle.board_core.specs.Flash.{FlashMedium, FlashState}
 use Rattle.board_core.specs.Streams.{StreamState}
 use Rattle.board_core.specs.Tpm.{unlocked}
-use Rattle.board_core.specs.World.{World}
+use Rattle.board_core.specs.World.{World, counters_on}
 use Rattle.rom_core.specs.Reading.{IsLowestMap, HasNoMap, Locates}
 use Rattle.boot_core.specs.declared.outcome.Outcome.{Outcome}
 use Rattle.boot_core.specs.declared.switches.Switches.{Switches}
 use Rattle.boot_core.specs.Hands.{Handed}
-use Rattle.boot_core.specs.Steps.{IsTold, both_locked, locks_at}
+use Rattle.boot_core.specs.Steps.{IsTold, locks_at}
 use Rattle.boot_core.specs.Boots.{NeverFall, HandsOver, boot_plan, Boots}
 use Rattle.command_core.specs.declared.answer.Answer.{Answer}
 use Rattle.command_core.specs.declared.answer.Answer.TheVariants as answers
 use Rattle.command_core.specs.declared.answer.Status.{Status}
-use Rattle.command_core.specs.Answers.{outcome_code}
+use Rattle.command_core.specs.declared.answer.Status.TheVariants as ended
+use Rattle.command_core.specs.Answers.{outcome_status}
 use Rattle.command_core.specs.Prints.{Prints}
 
 -- the map is looked for here: the lowest multiple of 64 at which one stands, or 0
@@ -62,69 +64,55 @@ pub record BootRuns (sw : Switches) (old new : World) (put put' : StreamState) (
 
 -- ---- what a user reads from the status
 
--- one call of a device failed
-abbrev pub FailedOnce : Counters → Counters → Type 0
-FailedOnce old new = new.faults ≡ raised old.faults
+-- each device counted one failed call where it is one of those that failed, and none else
+abbrev pub CountsFailed : (Device → Bool) → World → World → Type 0
+CountsFailed failed old new = (on : Device) → CountsFaults (counters_on on old).faults (counters_on on new).faults (failed on)
 
--- no call of it failed
-abbrev pub NeverFailed : Counters → Counters → Type 0
-NeverFailed old new = new.faults ≡ old.faults
+-- this device failed, and no other
+abbrev pub FailedAlone : Device → World → World → Type 0
+FailedAlone device = CountsFailed (λ on. same_device on device)
 
--- the status is that of no fault of a device or of the sink, and none of want of memory
-pub record IsNoFault (status : Status) : Type 0 where
-  pub flash : status.code ≡ 5 → ⊥
-  pub tpm : status.code ≡ 6 → ⊥
-  pub drive : status.code ≡ 7 → ⊥
-  pub hook : status.code ≡ 8 → ⊥
-  pub sink : status.code ≡ 9 → ⊥
-  pub memory : status.code ≡ 15 → ⊥
+abbrev pub NoneFailed : World → World → Type 0
+NoneFailed = CountsFailed (λ on. false)
 
--- the status is that of the plan of a board, with its map looked for
-pub record EndsPlanned (sw : Switches) (old : World) (status : Status) : Type 0 where
+-- The outcome is that of the plan of a board, with its map looked for. Firmware and kernel that are handed over are those of the board,
+-- each with its chain and, where versions are checked, no older than what is stored.
+pub record IsPlanned (sw : Switches) (old : World) (outcome : Outcome) : Type 0 where
   pub at : ℕ
   pub located : IsLocated old.flash.medium at
-  pub code : status.code ≡ outcome_code (boot_plan sw (record old { map_at = at })).outcome
-
--- The boot came to the plan's outcome: developer mode is switched on, or firmware and kernel of the board are handed over, each with
--- its chain and, where versions are checked, no older than what is stored. Both spaces are locked at a hand-over alone.
-pub record EndsHanded (sw : Switches) (old new : World) : Type 0 where
-  pub at : ℕ
-  pub located : IsLocated old.flash.medium at
-  pub outcome : Outcome
   pub planned : outcome ≡ (boot_plan sw (record old { map_at = at })).outcome
   pub handed : Handed
   pub hands : HandsOver sw (record old { map_at = at }) handed outcome
+
+-- The boot came to an outcome of this status, and no device failed. Both spaces are locked at a hand-over alone.
+pub record EndsPlanned (sw : Switches) (old new : World) (status : Status) : Type 0 where
+  pub outcome : Outcome
+  pub status_is : status ≡ outcome_status outcome
+  pub none_failed : NoneFailed old new
   pub locks : new.tpm.locks ≡ locks_at outcome
+  pub planned : IsTold old → IsPlanned sw old outcome
 
--- A fault is answered only where that very device failed, once; and at every other status none did.
-pub record EndsFaults (old new : World) (put put' : StreamState) (status : Status) : Type 0 where
-  pub flash_fault : status.code ≡ 5 → FailedOnce old.flash.counters new.flash.counters
-  pub tpm_fault : status.code ≡ 6 → FailedOnce old.tpm.counters new.tpm.counters
-  pub drive_fault : status.code ≡ 7 → FailedOnce old.disk.counters new.disk.counters ⊎ FailedOnce old.stick.counters new.stick.counters
-  pub hook_fault : status.code ≡ 8 → new.hook.faults ≡ raised old.hook.faults
-  pub sink_fault : status.code ≡ 9 → put'.faults ≡ raised put.faults
-  pub no_flash_fault : (status.code ≡ 5 → ⊥) → (status.code ≡ 9 → ⊥) → NeverFailed old.flash.counters new.flash.counters
-  pub no_tpm_fault : (status.code ≡ 6 → ⊥) → (status.code ≡ 9 → ⊥) → NeverFailed old.tpm.counters new.tpm.counters
-  pub no_drive_fault : (status.code ≡ 7 → ⊥) → (status.code ≡ 9 → ⊥)
-      → NeverFailed old.disk.counters new.disk.counters × NeverFailed old.stick.counters new.stick.counters
-  pub no_hook_fault : (status.code ≡ 8 → ⊥) → (status.code ≡ 9 → ⊥) → new.hook.faults ≡ old.hook.faults
-  pub no_sink_fault : (status.code ≡ 9 → ⊥) → put'.faults ≡ put.faults
+-- it came to an outcome that ends it, and neither space is locked
+abbrev pub EndsUnlocked : Switches → World → World → Status → Type 0
+EndsUnlocked sw old new status = EndsPlanned sw old new status × (new.tpm.locks ≡ unlocked)
 
--- Where the boot ends, neither space is locked; at status 0 both are or neither.
-pub record EndsLocks (new : World) (status : Status) : Type 0 where
-  pub at_zero : status.code ≡ 0 → (new.tpm.locks ≡ both_locked) ⊎ (new.tpm.locks ≡ unlocked)
-  pub left_unlocked : (status.code ≡ 2) ⊎ ((status.code ≡ 3) ⊎ (status.code ≡ 11)) → new.tpm.locks ≡ unlocked
+-- What each status tells of the board. That of a device comes only where this device failed, and alone; that of the sink hides what
+-- the boot came to; and a boot has no other status than these.
+abbrev pub StatusTells : Switches → World → World → StreamState → StreamState → Status → Type 0
+StatusTells sw old new put put' ended.Done = EndsPlanned sw old new ended.Done
+StatusTells sw old new put put' ended.Reboot = EndsUnlocked sw old new ended.Reboot
+StatusTells sw old new put put' ended.Screen = EndsUnlocked sw old new ended.Screen
+StatusTells sw old new put put' ended.BadFlash = EndsUnlocked sw old new ended.BadFlash
+StatusTells sw old new put put' ended.FlashFault = FailedAlone device.Flash old new
+StatusTells sw old new put put' ended.TpmFault = FailedAlone device.Tpm old new
+StatusTells sw old new put put' ended.DriveFault = FailedAlone device.Disk old new ⊎ FailedAlone device.Stick old new
+StatusTells sw old new put put' ended.HookFault = FailedAlone device.Hook old new
+StatusTells sw old new put put' ended.SinkFault = CountsFaults put.faults put'.faults true
+-- want of memory comes before the first call of a device
+StatusTells sw old new put put' ended.NoMemory = new ≡ old
+StatusTells sw old new put put' other = ⊥
 
 pub record BootEnds (sw : Switches) (old new : World) (put put' : StreamState) (status : Status) : Type 0 where
-  -- where nothing failed, the status is that of the plan
-  pub planned : IsTold old → IsNoFault status → EndsPlanned sw old status
-  -- at status 0 what is handed over has its chain, and is no older
-  pub handed : IsTold old → status.code ≡ 0 → EndsHanded sw old new
-  pub faults : EndsFaults old new put put' status
-  pub locks : EndsLocks new status
-  -- want of memory comes before the first call of a device
-  pub no_memory : status.code ≡ 15 → new ≡ old
-  -- status 1 is for other words
-  pub not_usage : status.code ≡ 1 → ⊥
+  pub tells : StatusTells sw old new put put' status
   -- at every status, neither stored version falls
   pub versions : IsTrue old.tpm.told → NeverFall old.tpm.spaces new.tpm.spaces

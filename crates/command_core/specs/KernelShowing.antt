@@ -10,6 +10,7 @@ use Rattle.show_core.specs.Partition.{ShowsPartition}
 use Rattle.command_core.specs.declared.answer.Answer.TheVariants as answers
 use Rattle.command_core.specs.declared.answer.CgptRefusal.TheVariants as refusal
 use Rattle.command_core.specs.declared.answer.Status.{Status}
+use Rattle.command_core.specs.declared.answer.Status.TheVariants as ended
 use Rattle.command_core.specs.Prints.{Prints}
 use Rattle.board_core.specs.Drive.{device_of_drive}
 use Rattle.command_core.specs.Partitions.{LacksMemory}
@@ -17,8 +18,8 @@ use Rattle.command_core.specs.Partitions.{LacksMemory}
 -- A showing that is done ends with status 0, and one whose text could not be put with 9. The text of any other is printed with
 -- its status.
 abbrev pub EndsKernel : Drive → Result Unit PartitionFault → StreamState → StreamState → Status → Type 0
-EndsKernel drive (Ok done) old new status = (status.code ≡ 0) × (new ≡ old)
-EndsKernel drive (Err fault.Write) old new status = (status.code ≡ 9) × (new ≡ old)
+EndsKernel drive (Ok done) old new status = (status ≡ ended.Done) × (new ≡ old)
+EndsKernel drive (Err fault.Write) old new status = (status ≡ ended.SinkFault) × (new ≡ old)
 EndsKernel drive (Err fault.Device) old new status = Prints (answers.Failed (device_of_drive drive)) old new status
 EndsKernel drive (Err fault.NoTable) old new status = Prints (answers.RefusedCgpt refusal.NoTable) old new status
 EndsKernel drive (Err fault.NoEntry) old new status = Prints (answers.RefusedCgpt refusal.NoEntry) old new status
@@ -42,4 +43,4 @@ pub record RunsKernel (drive : Drive) (index : ℕ) (old new : World) (put put' 
 -- What the command does, and that status 1 is for other words. Want of memory comes before the first call of a device.
 abbrev pub ShowsKernel : Drive → (index : ℕ) → World → World → StreamState → StreamState → Status → Type 0
 ShowsKernel drive index old new put put' status =
-    (RunsKernel drive index old new put put' status ⊎ LacksMemory old new put put' status) × (status.code ≡ 1 → ⊥)
+    (RunsKernel drive index old new put put' status ⊎ LacksMemory old new put put' status) × (status ≡ ended.Usage → ⊥)

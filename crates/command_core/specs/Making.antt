@@ -11,6 +11,7 @@ use Rattle.make_core.specs.Make.{HasOtherSize, HasCause, IsMade, LeftBy, CountsO
 use Rattle.command_core.specs.declared.answer.Answer.{Answer}
 use Rattle.command_core.specs.declared.answer.Answer.TheVariants as answers
 use Rattle.command_core.specs.declared.answer.Status.{Status}
+use Rattle.command_core.specs.declared.answer.Status.TheVariants as ended
 use Rattle.command_core.specs.Prints.{Prints}
 
 abbrev pub refusal_of : MakeFault → Answer
@@ -21,7 +22,7 @@ refusal_of faults.Memory = answers.OutOfMemory
 
 -- A machine that is made ends with status 0 and prints nothing, and a refusal is printed.
 abbrev pub EndsMake : Result Unit MakeFault → StreamState → StreamState → Status → Type 0
-EndsMake (Ok done) old new status = (status.code ≡ 0) × (new ≡ old)
+EndsMake (Ok done) old new status = (status ≡ ended.Done) × (new ≡ old)
 EndsMake (Err fault) old new status = Prints (refusal_of fault) old new status
 
 -- The images of the machine of a number are made on a board.
@@ -39,4 +40,4 @@ pub record Makes (number : ℕ) (old new : World) (put put' : StreamState) (stat
   pub kept : KeepsRest old new
   pub ends : EndsMake answer put put' status
   -- status 1 is for other words
-  pub not_usage : status.code ≡ 1 → ⊥
+  pub not_usage : status ≡ ended.Usage → ⊥

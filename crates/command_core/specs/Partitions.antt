@@ -12,13 +12,14 @@ use Rattle.cgpt_core.specs.Tables.{Works}
 use Rattle.command_core.specs.declared.answer.Answer.TheVariants as answers
 use Rattle.command_core.specs.declared.answer.CgptRefusal.TheVariants as refusal
 use Rattle.command_core.specs.declared.answer.Status.{Status}
+use Rattle.command_core.specs.declared.answer.Status.TheVariants as ended
 use Rattle.command_core.specs.Prints.{Prints}
 
 -- A command that is done ends with status 0, and one whose text could not be put with 9. The text of any other is printed
 -- with its status.
 abbrev pub EndsCgpt : Drive → Result Unit CgptFault → StreamState → StreamState → Status → Type 0
-EndsCgpt drive (Ok done) old new status = (status.code ≡ 0) × (new ≡ old)
-EndsCgpt drive (Err fault.Write) old new status = (status.code ≡ 9) × (new ≡ old)
+EndsCgpt drive (Ok done) old new status = (status ≡ ended.Done) × (new ≡ old)
+EndsCgpt drive (Err fault.Write) old new status = (status ≡ ended.SinkFault) × (new ≡ old)
 EndsCgpt drive (Err fault.Device) old new status = Prints (answers.Failed (device_of_drive drive)) old new status
 EndsCgpt drive (Err fault.NoTable) old new status = Prints (answers.RefusedCgpt refusal.NoTable) old new status
 EndsCgpt drive (Err fault.NotBuilt) old new status = Prints answers.CgptNotBuilt old new status
@@ -45,4 +46,4 @@ LacksMemory old new put put' status = (new ≡ old) × Prints answers.OutOfMemor
 -- What the command does, and that status 1 is for other words.
 abbrev pub WorksTable : CgptCall → World → World → StreamState → StreamState → Status → Type 0
 WorksTable call old new put put' status =
-    (RunsCgpt call old new put put' status ⊎ LacksMemory old new put put' status) × (status.code ≡ 1 → ⊥)
+    (RunsCgpt call old new put put' status ⊎ LacksMemory old new put put' status) × (status ≡ ended.Usage → ⊥)

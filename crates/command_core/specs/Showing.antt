@@ -10,6 +10,7 @@ use Rattle.show_core.specs.declared.show.ShowFault.TheVariants.{Device, BadFlash
 use Rattle.show_core.specs.Show.{is_device, is_write, IsUnshown, PutsText}
 use Rattle.command_core.specs.declared.answer.Answer.TheVariants as answers
 use Rattle.command_core.specs.declared.answer.Status.{Status}
+use Rattle.command_core.specs.declared.answer.Status.TheVariants as ended
 use Rattle.command_core.specs.Prints.{Prints}
 use Rattle.command_core.specs.Booting.{IsLocated}
 
@@ -29,8 +30,8 @@ pub record LocatesAndShows (old new : FlashState) (put put' : StreamState) (resu
 
 -- How a showing ends: with status 0; or with the text and the status of what went wrong, or 9 where the sink failed.
 abbrev pub EndsShow : Result Unit ShowFault → StreamState → StreamState → Status → Type 0
-EndsShow (Ok done) old new status = (status.code ≡ 0) × (new ≡ old)
-EndsShow (Err Write) old new status = (status.code ≡ 9) × (new ≡ old)
+EndsShow (Ok done) old new status = (status ≡ ended.Done) × (new ≡ old)
+EndsShow (Err Write) old new status = (status ≡ ended.SinkFault) × (new ≡ old)
 EndsShow (Err Device) old new status = Prints (answers.Failed device.Flash) old new status
 EndsShow (Err (BadFlash fault)) old new status = Prints (answers.BadFlash fault) old new status
 
@@ -48,4 +49,4 @@ pub record Shows (old new : World) (put put' : StreamState) (status : Status) : 
   pub hook : new.hook ≡ old.hook
   pub map_at : new.map_at ≡ old.map_at
   -- status 1 is for other words
-  pub not_usage : status.code ≡ 1 → ⊥
+  pub not_usage : status ≡ ended.Usage → ⊥

@@ -1,6 +1,6 @@
-// What a command came to, with its text and its exit status.
+// What a command came to, with its text and its status.
 ghost use Rattle.std.specs.Prelude.{◌≡◌, ◌≤◌, ◌+◌, ◌++◌, length};
-ghost use Rattle.command_core.specs.Answers.{line_of, mode_name, slot_name, drive_name, version_name, firmware_line, kernel_line, stored_line, hand_text, reboot_line, text_of, code_of, device_name, device_code, refusal_name, outcome_text, outcome_code, answer_of_words};
+ghost use Rattle.command_core.specs.Answers.{line_of, mode_name, slot_name, drive_name, version_name, firmware_line, kernel_line, stored_line, hand_text, reboot_line, text_of, status_of, device_name, device_status, refusal_name, outcome_text, outcome_status, exit_code, answer_of_words};
 
 use board_core::{Device, Drive, Fault};
 use board_file::OpenFault;
@@ -49,14 +49,65 @@ pub enum Answer {
     Unopened(OpenFault),
 }
 
-/// How a command ended, as the exit status of the program.
+/// How a command ended: one for each exit status of the program.
 #[derive(Clone, Copy, Debug, PartialEq, Eq)]
-pub struct Status {
-    pub code: u8,
+pub enum Status {
+    /// The command did what it is for; a boot handed over, or switched developer mode on.
+    Done,
+    /// The words are no command.
+    Usage,
+    /// A boot ended in a reboot.
+    Reboot,
+    /// A boot ended at a screen.
+    Screen,
+    /// A call of the flash failed.
+    FlashFault,
+    /// A call of the TPM failed.
+    TpmFault,
+    /// A call of the disk or of the stick failed.
+    DriveFault,
+    /// A call of the hook failed.
+    HookFault,
+    /// The text could not be put.
+    SinkFault,
+    /// The map of the flash has a fault.
+    BadFlash,
+    /// A command on a partition table was refused.
+    RefusedCgpt,
+    /// There was no memory.
+    NoMemory,
+    /// A machine was not made.
+    RefusedMake,
+    /// A file of the board was not opened.
+    CannotOpen,
+    /// The command does not stand yet.
+    NotBuilt,
 }
 
-/// The exit status where a put into the sink failed.
-pub const SINK_FAULT: u8 = 9;
+impl Status {
+    /// The number that the program exits with.
+    pub fn code(self) -> u8
+        ensures { result ≡ exit_code self }
+    {
+        match self {
+            Status::Done => 0,
+            Status::Usage => 1,
+            Status::Reboot => 2,
+            Status::Screen => 3,
+            Status::FlashFault => 5,
+            Status::TpmFault => 6,
+            Status::DriveFault => 7,
+            Status::HookFault => 8,
+            Status::SinkFault => 9,
+            Status::BadFlash => 11,
+            Status::RefusedCgpt => 14,
+            Status::NoMemory => 15,
+            Status::RefusedMake => 16,
+            Status::CannotOpen => 17,
+            Status::NotBuilt => 19,
+        }
+    }
+}
 
 // The name of a device, as it is printed.
 fn name_of(device: Device) -> &'static [u8]
@@ -83,26 +134,26 @@ fn name_of_refusal(refusal: CgptRefusal) -> &'static [u8]
     }
 }
 
-// The exit status of a fault of a device.
-fn code_of_device(device: Device) -> u8
-    ensures { result ≡ device_code device }
+// The status of a fault of a device.
+fn status_of_device(device: Device) -> Status
+    ensures { result ≡ device_status device }
 {
     match device {
-        Device::Flash => 5,
-        Device::Tpm => 6,
-        Device::Disk | Device::Stick => 7,
-        Device::Hook => 8,
+        Device::Flash => Status::FlashFault,
+        Device::Tpm => Status::TpmFault,
+        Device::Disk | Device::Stick => Status::DriveFault,
+        Device::Hook => Status::HookFault,
     }
 }
 
-fn code_of_outcome(outcome: Outcome) -> u8
-    ensures { result ≡ outcome_code outcome }
+fn status_of_outcome(outcome: Outcome) -> Status
+    ensures { result ≡ outcome_status outcome }
 {
     match outcome {
-        Outcome::HandOver(_) | Outcome::DevEnabled => 0,
-        Outcome::Reboot { .. } => 2,
-        Outcome::Screen { .. } => 3,
-        Outcome::BadFlash(_) => 11,
+        Outcome::HandOver(_) | Outcome::DevEnabled => Status::Done,
+        Outcome::Reboot { .. } => Status::Reboot,
+        Outcome::Screen { .. } => Status::Screen,
+        Outcome::BadFlash(_) => Status::BadFlash,
     }
 }
 
@@ -118,21 +169,21 @@ impl Answer {
         }
     }
 
-    /// The exit status, where the text could be printed.
-    pub fn code(&self) -> u8
-        ensures { result ≡ code_of self.now }
+    /// The status, where the text could be printed.
+    pub fn status(&self) -> Status
+        ensures { result ≡ status_of self.now }
     {
         match self {
-            Answer::Usage => 1,
-            Answer::Booted(outcome) => code_of_outcome(*outcome),
-            Answer::Faulted(fault) => code_of_device(fault.device),
-            Answer::Failed(device) => code_of_device(*device),
-            Answer::BadFlash(_) => 11,
-            Answer::RefusedCgpt(_) => 14,
-            Answer::OutOfMemory | Answer::Unopened(OpenFault::Memory) => 15,
-            Answer::WrongSize(_) | Answer::HookFull => 16,
-            Answer::Unopened(OpenFault::CannotOpen(_)) => 17,
-            Answer::CgptNotBuilt => 19,
+            Answer::Usage => Status::Usage,
+            Answer::Booted(outcome) => status_of_outcome(*outcome),
+            Answer::Faulted(fault) => status_of_device(fault.device),
+            Answer::Failed(device) => status_of_device(*device),
+            Answer::BadFlash(_) => Status::BadFlash,
+            Answer::RefusedCgpt(_) => Status::RefusedCgpt,
+            Answer::OutOfMemory | Answer::Unopened(OpenFault::Memory) => Status::NoMemory,
+            Answer::WrongSize(_) | Answer::HookFull => Status::RefusedMake,
+            Answer::Unopened(OpenFault::CannotOpen(_)) => Status::CannotOpen,
+            Answer::CgptNotBuilt => Status::NotBuilt,
         }
     }
 

@@ -4,7 +4,7 @@ ghost use Rattle.board_core.specs.World.{world};
 ghost use Rattle.boot_core.specs.Carries.{IsSettled};
 ghost use Rattle.command_core.specs.KernelShowing.{EndsKernel, ShowsOnDrive, ShowsKernel};
 
-use crate::answer::{Answer, CgptRefusal, SINK_FAULT, Status};
+use crate::answer::{Answer, CgptRefusal, Status};
 use crate::printing::print;
 use board_core::{Disk, Drive, Flash, Hook, Platform, Sink, Tpm};
 use gpt_core::GptRoom;
@@ -56,11 +56,11 @@ fn show_on_drive<F: Flash, T: Tpm, D: Disk, E: Disk, H: Hook, O: Sink>(
 // Ends a showing, and answers the exit status.
 fn end_kernel<O: Sink>(out: &mut O, drive: Drive, answer: Result<(), PartitionFault>) -> Status
     ensures ends { EndsKernel drive answer (O.state out.old) (O.state out.new) result }
-    ensures not_usage { result.code ≡ 1 → ⊥ }
+    ensures not_usage { result ≡ Status.Usage → ⊥ }
 {
     match answer {
-        Ok(()) => Status { code: 0 },
-        Err(PartitionFault::Write) => Status { code: SINK_FAULT },
+        Ok(()) => Status::Done,
+        Err(PartitionFault::Write) => Status::SinkFault,
         Err(PartitionFault::Device) => print(out, &Answer::Failed(drive.device())),
         Err(PartitionFault::NoTable) => print(out, &Answer::RefusedCgpt(CgptRefusal::NoTable)),
         Err(PartitionFault::NoEntry) => print(out, &Answer::RefusedCgpt(CgptRefusal::NoEntry)),

@@ -27,10 +27,10 @@ pub fn run_make<F: Flash, T: Tpm, D: Disk, E: Disk, H: Hook, O: Sink>(
 // Ends the making of a machine, and answers the exit status.
 fn end_make<O: Sink>(out: &mut O, answer: Result<(), MakeFault>) -> Status
     ensures ends { EndsMake answer (O.state out.old) (O.state out.new) result }
-    ensures not_usage { result.code ≡ 1 → ⊥ }
+    ensures not_usage { result ≡ Status.Usage → ⊥ }
 {
     match answer {
-        Ok(()) => Status { code: 0 },
+        Ok(()) => Status::Done,
         Err(fault) => print(out, &refusal(fault)),
     }
 }

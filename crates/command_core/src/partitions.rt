@@ -4,7 +4,7 @@ ghost use Rattle.board_core.specs.World.{world};
 ghost use Rattle.boot_core.specs.Carries.{IsSettled};
 ghost use Rattle.command_core.specs.Partitions.{EndsCgpt, WorksOnDrive, WorksTable};
 
-use crate::answer::{Answer, CgptRefusal, SINK_FAULT, Status};
+use crate::answer::{Answer, CgptRefusal, Status};
 use crate::printing::print;
 use board_core::{Device, Disk, Drive, Flash, Hook, Platform, Sink, Tpm};
 use cgpt_core::{CgptCall, CgptFault, cgpt};
@@ -50,11 +50,11 @@ fn work_cgpt<F: Flash, T: Tpm, D: Disk, E: Disk, H: Hook, O: Sink>(
 // Ends a command, and answers the exit status.
 fn end_cgpt<O: Sink>(out: &mut O, drive: Drive, answer: Result<(), CgptFault>) -> Status
     ensures ends { EndsCgpt drive answer (O.state out.old) (O.state out.new) result }
-    ensures not_usage { result.code ≡ 1 → ⊥ }
+    ensures not_usage { result ≡ Status.Usage → ⊥ }
 {
     match answer {
-        Ok(()) => Status { code: 0 },
-        Err(CgptFault::Write) => Status { code: SINK_FAULT },
+        Ok(()) => Status::Done,
+        Err(CgptFault::Write) => Status::SinkFault,
         Err(CgptFault::Device) => print(out, &Answer::Failed(drive.device())),
         Err(CgptFault::NoTable) => print(out, &Answer::RefusedCgpt(CgptRefusal::NoTable)),
         Err(CgptFault::NotBuilt) => print(out, &Answer::CgptNotBuilt),

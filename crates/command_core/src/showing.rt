@@ -2,7 +2,7 @@
 ghost use Rattle.board_core.specs.World.{world};
 ghost use Rattle.command_core.specs.Showing.{LocatesAndShows, EndsShow, Shows};
 
-use crate::answer::{Answer, SINK_FAULT, Status};
+use crate::answer::{Answer, Status};
 use crate::printing::print;
 use board_core::{Device, Disk, Flash, Hook, Platform, Sink, Tpm};
 use rom_core::layout::LARGEST_VBLOCK;
@@ -36,8 +36,8 @@ fn end_show<O: Sink>(out: &mut O, answer: Result<(), ShowFault>) -> Status
     ensures { EndsShow answer (O.state out.old) (O.state out.new) result }
 {
     match answer {
-        Ok(()) => Status { code: 0 },
-        Err(ShowFault::Write) => Status { code: SINK_FAULT },
+        Ok(()) => Status::Done,
+        Err(ShowFault::Write) => Status::SinkFault,
         Err(ShowFault::Device) => print(out, &Answer::Failed(Device::Flash)),
         Err(ShowFault::BadFlash(fault)) => print(out, &Answer::BadFlash(fault)),
     }

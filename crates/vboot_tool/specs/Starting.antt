@@ -10,7 +10,7 @@ use Rattle.board_file.specs.declared.open_fault.OpenFault.{OpenFault}
 use Rattle.board_file.specs.declared.open_fault.OpenFault.TheVariants.{Memory}
 use Rattle.command_core.specs.declared.answer.Answer.TheVariants as answer
 use Rattle.command_core.specs.declared.answer.Status.{Status}
-use Rattle.command_core.specs.Answers.{answer_of_words}
+use Rattle.command_core.specs.Answers.{answer_of_words, exit_code}
 use Rattle.command_core.specs.Commands.{IsCommand, IsRead}
 use Rattle.command_core.specs.Prints.{Prints}
 use Rattle.command_core.specs.Run.{Runs}
@@ -45,11 +45,11 @@ StartsBy words put put' status = RunsOpened words put put' status ⊎ (IsUnopene
 -- the words were run, or memory was wanting before; the process ends with the status that this came to
 abbrev pub EndsBy : List (List ℕ) → StreamState → StreamState → ℕ → Type 0
 EndsBy words put put' code =
-    (status : Status) × (code ≡ status.code) × (StartsBy words put put' status ⊎ Prints (answer.Unopened Memory) put put' status)
+    (status : Status) × (code ≡ exit_code status) × (StartsBy words put put' status ⊎ Prints (answer.Unopened Memory) put put' status)
 
 -- No word could be had. Where memory was wanting, that is told; every other cause is told as words that are no command.
 pub record LacksWords (kind : ErrorKind) (put put' : StreamState) (code : ℕ) : Type 0 where
   pub status : Status
-  pub ends : code ≡ status.code
+  pub ends : code ≡ exit_code status
   pub memory : kind ≡ OutOfMemory → Prints (answer.Unopened Memory) put put' status
   pub other : (kind ≡ OutOfMemory → ⊥) → Prints answer.Usage put put' status

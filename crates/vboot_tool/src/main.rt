@@ -91,9 +91,9 @@ fn run_process<R: Files + AllocGlobal, O: Sink>(rt: &R, process: Args, out: &mut
     ensures { EndsBy (map string_bytes (drop 1 (into_iter_items process))) (O.state out.old) (O.state out.new) (exit_status result) }
 {
     let Ok(words) = words_after_name(rt.alloc(), process) else {
-        return ExitCode::from(print(out, &Answer::Unopened(OpenFault::Memory)).code);
+        return ExitCode::from(print(out, &Answer::Unopened(OpenFault::Memory)).code());
     };
-    ExitCode::from(run_here(rt, &words, out).code)
+    ExitCode::from(run_here(rt, &words, out).code())
 }
 
 // The words of the process cannot be had: one is no text, or memory is wanting. Nothing is run.
@@ -101,9 +101,9 @@ fn refuse<O: Sink>(error: &io::Error, out: &mut O) -> ExitCode
     ensures { LacksWords (error_kind error.now) (O.state out.old) (O.state out.new) (exit_status result) }
 {
     if error.kind() == io::ErrorKind::OutOfMemory {
-        return ExitCode::from(print(out, &Answer::Unopened(OpenFault::Memory)).code);
+        return ExitCode::from(print(out, &Answer::Unopened(OpenFault::Memory)).code());
     }
-    ExitCode::from(print(out, &Answer::Usage).code)
+    ExitCode::from(print(out, &Answer::Usage).code())
 }
 
 fn main(rt: HostRuntime) -> ExitCode {

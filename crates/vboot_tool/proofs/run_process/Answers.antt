@@ -7,7 +7,7 @@ use Rattle.vboot_tool.proofs.run_process.Goals as goal
 pub returns : goal.returns
 returns g c = (
   c.run_here.result,
-  c.from-2.ensures,
+  c.from-2.ensures ∙ c.code-2.ensures,
   inl (subst (λ (words : List (String Global)). StartsBy (map string_bytes words) (g.O.Sink.state c.args.out.now) (g.O.Sink.state c.run_here.new.out) c.run_here.result)
       (c.deref.ensures.value ∙ c.in-Ok.ensures) c.run_here.ensures),
 )

@@ -1,3 +1,4 @@
 mod Words
 mod Ending
 pub mod SwitchWords
+mod Telling

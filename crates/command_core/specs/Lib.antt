@@ -1,5 +1,6 @@
 pub mod Commands
 pub mod Answers
+pub mod Telling
 pub mod Prints
 pub mod Booting
 pub mod Showing

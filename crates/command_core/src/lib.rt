@@ -3,13 +3,14 @@
 //! - `command` has the commands and their words, `switch_words` those of a boot, and `answer` what each came to, with its text and
 //!   its exit status.
 //! - `booting`, `kernel_showing`, `making`, `partitions` and `showing` work a command on a board, and `running` any of them;
-//!   `printing` puts the answer.
+//!   `printing` puts the answer, and `laws` has that it tells what a boot came to.
 #![tactic(auto)]
 
 mod answer;
 mod booting;
 mod command;
 mod kernel_showing;
+mod laws;
 mod making;
 mod partitions;
 mod printing;
@@ -19,5 +20,6 @@ mod switch_words;
 
 pub use answer::{Answer, CgptRefusal, Status};
 pub use command::{Command, command_of};
+pub use laws::lines_tell_answers_apart;
 pub use printing::print;
 pub use running::run;

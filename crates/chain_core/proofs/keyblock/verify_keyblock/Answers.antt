@@ -79,8 +79,10 @@ is_signed-requires g c =
 pub returns-in_err-is_signed : goal.returns-in_err-is_signed
 returns-in_err-is_signed g c =
     let left = err_from_is_err_and c.from_residual.result c.from_residual.ensures.1 in
-    record { meets = rw left.1 (keyblock_failed _ _ _ _ _ _ left.0 (failed_of _ _ _ _ c.is_signed.ensures.meets.asked c.in_err-is_signed.was)
-        (front g (goal.at.returns-in_err-is_signed g c).After-is_signed)) }
+    record {
+      meets = rw left.1 (keyblock_failed _ _ _ _ _ _ left.0 (failed_of _ _ _ _ c.is_signed.ensures.meets.asked c.in_err-is_signed.was)
+          (front g (goal.at.returns-in_err-is_signed g c).After-is_signed));
+    }
 
 pub returns-then-not-branch : goal.returns-then-not-branch
 returns-then-not-branch g c =

@@ -54,12 +54,12 @@ use Rattle.boot_core.specs.Drives.{drive_of, rules_of, recovery_of, drive_asked,
 use Rattle.boot_core.specs.Plan.{first_changes, later_changes, changes_of, slot_plan_of, drive_plan_of, selected_answer, recovery_plan_of, enabling_plan_of, enables_dev, boot_mode_of, look_by, plan_in, plan_of, look_in, look_of}
 use Rattle.boot_core.specs.Hands.{Handed, handed_by, kernel_key, HoldsSlot, HoldsKernel, HoldsHand, HoldsOutcome, StandsOutcome}
 use Rattle.board_core.specs.Drive.{same_drive}
-use Rattle.boot_core.specs.Steps.{SameDrives, IsTold, HasSizes, WalkedOn, Looks, ReadsBoard, IsFromDisk, most_read, ReadsAtMost, PlansBoot, to_of, WritesTable, Finishes}
+use Rattle.boot_core.specs.Steps.{SameDrives, IsTold, HasSizes, HasMap, IsBehindMap, WalkedOn, Looks, ReadsBoard, IsFromDisk, most_read, ReadsAtMost, PlansBoot, to_of, WritesTable, Finishes}
 use Rattle.boot_core.specs.Boots.{BootPlan, boot_plan_of, bad_flash_plan, boot_plan_by, boot_plan, look_found, writes_table, AtFault, NeverFall, HandsOver, StandsOver, GoesOn, Boots}
 use Rattle.boot_core.proofs.Looking.{looks_then, looks_err}
 use Rattle.boot_core.proofs.Carried.{carried_then, carried_as, carried_cut}
 use Rattle.boot_core.proofs.Making.{looks_carry, keeps_same}
-use Rattle.boot_core.proofs.Findings.{found_same}
+use Rattle.boot_core.proofs.Findings.{found_same, behind_map}
 use Rattle.boot_core.proofs.OneTable.{tables, tables-append, at_most_one, no_firmware, no_record, no_kernel, one_tabled}
 use Rattle.boot_core.proofs.Versions.{never_same, RaiseAll, never_after, never_all, raise_then}
 use Rattle.boot_core.proofs.Prefix.{at_fault}
@@ -145,8 +145,8 @@ kept_same area state old new same = subst (λ (m : FlashMedium). KeepsWritten ar
 
 -- a fault before any change
 boots_looked : (sw : Switches) (old new : World) (handed : Handed) (fault : Fault) → HasSizes old → IsSettled old → Looks {T = Outcome} old new (Err fault) → fault.done ≡ 0
-    → (IsTold old → ReadsAtMost (look_found sw old (found_of old)) old new) → Boots sw old new handed (Err fault)
-boots_looked sw old new handed fault sized settled looks none reads =
+    → IsBehindMap fault.device old new → (IsTold old → ReadsAtMost (look_found sw old (found_of old)) old new) → Boots sw old new handed (Err fault)
+boots_looked sw old new handed fault sized settled looks none order reads =
     let plan : BootPlan = boot_plan sw old in
     let looked : CarriesOut {T = Outcome} 0 plan.to plan.state [] old new (Err fault) = looks_carry 0 plan.to plan.state old new (Err fault) settled looks none in
     let carried : CarriesOut {T = Outcome} 0 plan.to plan.state plan.changes old new (Err fault) = carried_cut 0 plan.to plan.state [] plan.changes old new fault looked in
@@ -160,6 +160,7 @@ boots_looked sw old new handed fault sized settled looks none reads =
       outcome = tt;
       made = tt;
       locks = tt;
+      order = order;
       fault = at_fault plan fault old new carried.frame carried.ends (at_most_one plan.changes (few_planned sw old));
       written = λ told. tt;
       goes_on = λ told. tt;
@@ -174,7 +175,7 @@ no_reads look old new same Stick = let is = ap (λ (s : DiskState). s.medium.sec
 
 pub boots_unread : (sw : Switches) (old new : World) (handed : Handed) (fault : Fault) → HasSizes old → IsSettled old → ReadsBoard old new (Err fault) → Boots sw old new handed (Err fault)
 boots_unread sw old new handed fault sized settled read =
-    boots_looked sw old new handed fault sized settled (looks_err old new fault read.looks) read.none_done (λ told. no_reads (look_found sw old (found_of old)) old new read.drives)
+    boots_looked sw old new handed fault sized settled (looks_err old new fault read.looks) read.none_done read.order (λ told. no_reads (look_found sw old (found_of old)) old new read.drives)
 
 pub boots_bad_flash : (sw : Switches) (old new : World) (handed : Handed) (fault : MapFault) → HasSizes old → IsSettled old → ReadsBoard old new (Ok (Err fault)) → Boots sw old new handed (Ok (outcome.BadFlash fault))
 unfolding boot_plan
@@ -194,6 +195,7 @@ boots_bad_flash sw old new handed fault sized settled read =
       made = carried.made;
       locks = read.unlocked;
       fault = tt;
+      order = tt;
       written = λ told. λ is. absurd (false≢true is);
       goes_on = λ told. record { hands = tt; stands = tt; agree = λ from. absurd from };
       versions = λ told. never_same old.tpm.spaces new.tpm.spaces read.looks.spaces;
@@ -426,7 +428,7 @@ pub boots_unplanned : (sw : Switches) (old mid new : World) (room : Room) (found
 boots_unplanned sw old mid new room found fault sized settled read h =
     let first : Result Found MapFault = Ok found in
     let same = read_boards old mid (Ok first) read in
-    boots_looked sw old new (handed_by room) fault sized settled (looks_then old mid new first (Err fault) read.looks (looks_err mid new fault h.looks)) h.none_done
+    boots_looked sw old new (handed_by room) fault sized settled (looks_then old mid new first (Err fault) read.looks (looks_err mid new fault h.looks)) h.none_done (behind_map fault.device old new read.mapped)
     (λ told. reads_back sw old mid new found same (sym (read.whole told.flash told.tpm)) (h.reads (told_again old mid (Ok first) read told)))
 
 -- the table that is written, or that of the plan
@@ -486,6 +488,10 @@ stands_answer sw old mid last new room found plan to (Ok o) sized told read plan
     (subst (λ (n : ℕ). FrameFlash n old.flash.medium new.flash.medium) at frame.flash) drives spaces plans.stored (held_of sw old mid found handed plan.outcome same (plans.holds again)) in
     subst (StandsOver sw old new handed) (sym out) (stands_over sw old new found handed plan.outcome is stands)
 
+order_answer : (old new : World) (answer : Result Outcome Fault) → HasMap old → IfErr answer (λ (fault : Fault). IsBehindMap fault.device old new)
+order_answer old new (Ok outcome) there = tt
+order_answer old new (Err fault) there = behind_map fault.device old new there
+
 pub boots_planned : (sw : Switches) (old mid last new : World) (room : Room) (found : Found) (plan : Plan) (answer : Result Outcome Fault) → HasSizes old → IsSettled old → ReadsBoard old mid (Ok (Ok found)) → PlansBoot sw found mid last room (Ok plan)
     → ((table : PartitionTable) → (plan.table ≡ true → table ≡ room.gpt.table) → Finishes table found plan last new answer) → Boots sw old new (handed_by room) answer
 unfolding boot_plan
@@ -518,6 +524,7 @@ boots_planned sw old mid last new room found plan answer sized settled read plan
       made = carried.made;
       locks = h.locks;
       fault = at_faults whole old new answer (few_listed plan) carried;
+      order = order_answer old new answer read.mapped;
       written = λ told. written_answer plan table last new answer (subst IsTrue (sym looks.same_disk.told) told) h.makes.drives;
       goes_on = λ told.
           goes_on_answer sw old new (handed_by room) answer

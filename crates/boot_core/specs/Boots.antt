@@ -37,7 +37,7 @@ use Rattle.boot_core.specs.Slots.{slot_asked}
 use Rattle.boot_core.specs.Drives.{Look, asked_at, no_table, table_after_look}
 use Rattle.boot_core.specs.Plan.{slot_look, plan_of, look_of, changes_of}
 use Rattle.boot_core.specs.Hands.{Handed, HoldsHand, StandsHand}
-use Rattle.boot_core.specs.Steps.{IsTold, HasSizes, IsFromDisk, ReadsAtMost, to_of, locks_at}
+use Rattle.boot_core.specs.Steps.{IsTold, HasSizes, IsBehindMap, IsFromDisk, ReadsAtMost, to_of, locks_at}
 
 -- ---- the plan
 
@@ -223,6 +223,8 @@ pub record Boots (sw : Switches) (old new : World) (handed : Handed) (answer : R
   pub written : IsTrue old.disk.medium.told → OnOk answer (IsTrue (writes_table plan.changes) → IsTrue (copies_agree new.disk.medium))
   pub locks : IfOk answer (λ outcome. new.tpm.locks ≡ locks_at outcome)
   pub fault : IfErr answer (λ fault. AtFault plan fault old new)
+  -- a device that failed hides no fault of the map
+  pub order : IfErr answer (λ fault. IsBehindMap fault.device old new)
   pub goes_on : IsTold old → IfOk answer (GoesOn sw old new handed)
   -- at every answer
   pub versions : IsTrue old.tpm.told → NeverFall old.tpm.spaces new.tpm.spaces

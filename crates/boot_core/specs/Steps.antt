@@ -1,7 +1,8 @@
 -- The steps of a boot over its board: reading, changing and locking.
-use Rattle.std.specs.Prelude.{◌≡◌, ℕ, ◌+◌, ◌*◌, ◌%◌, ◌≤◌, Bool, true, false, if◌then◌else◌, IsTrue, List, length, Option, Some, None, Result, is_err, IfOk, IfErr, IfSome, OnOk}
+use Rattle.std.specs.Prelude.{◌≡◌, ◌⊎◌, ℕ, ◌+◌, ◌*◌, ◌%◌, ◌≤◌, Bool, true, false, if◌then◌else◌, IsTrue, List, length, Option, Some, None, Result, Ok, is_err, IfOk, IfErr, IfSome, OnOk}
 use Rattle.record_core.specs.declared.space.SpaceFault.{SpaceFault}
 use Rattle.record_core.specs.Space.{firmware_fault, kernel_fault, good_bytes}
+use Rattle.board_core.specs.declared.device.Device.{Device}
 use Rattle.board_core.specs.declared.device.Device.TheVariants as device
 use Rattle.board_core.specs.declared.device.Fault.{Fault}
 use Rattle.board_core.specs.Counters.{Observed}
@@ -10,6 +11,8 @@ use Rattle.board_core.specs.Tpm.{TpmState, Locks, unlocked, AreWithinSize}
 use Rattle.board_core.specs.Drive.{same_drive}
 use Rattle.board_core.specs.World.{World, drive_on, with_drive}
 use Rattle.rom_core.specs.declared.map.Map.{Map}
+use Rattle.rom_core.specs.Reading.{map_question}
+use Rattle.rom_core.specs.Decoded.{flash_map}
 use Rattle.rom_core.specs.declared.fault.MapFault.{MapFault}
 use Rattle.rom_core.specs.MapFits.{FitsFlash}
 use Rattle.fwsel_core.specs.declared.slot.Slot.{Slot}
@@ -115,6 +118,19 @@ pub record ReadsFound (map : Map) (old new : World) (result : Result Found Fault
   pub none_done : IfErr result (λ fault. fault.done ≡ 0)
   pub whole : IsTrue old.flash.medium.told → IsTrue old.tpm.told → IfOk result (λ found. found ≡ found_in map old)
   pub found : IfOk result (λ found. IsFound old found)
+  -- none but these is called
+  pub devices : IfErr result (λ fault. (fault.device ≡ device.Flash) ⊎ (fault.device ≡ device.Tpm))
+
+-- the map of the flash is read, and its table finds no fault
+abbrev pub HasMap : World → Type 0
+HasMap w = IsTrue w.flash.medium.told → (map : Map) × (flash_map (map_question w.map_at w.flash.medium) ≡ Ok map)
+
+-- A device that failed hides no fault of the map: the TPM did not start, before the flash was called, or the map has no fault. The flash may
+-- have failed while it was read.
+abbrev pub IsBehindMap : Device → World → World → Type 0
+IsBehindMap device.Flash old new = Unit {0}
+IsBehindMap device.Tpm old new = ((new.flash ≡ old.flash) × (new.tpm.locks ≡ old.tpm.locks)) ⊎ HasMap old
+IsBehindMap other old new = HasMap old
 
 -- A board is started and read, which comes before any change.
 pub record ReadsBoard (old new : World) (result : Result (Result Found MapFault) Fault) : Type 0 where
@@ -126,6 +142,8 @@ pub record ReadsBoard (old new : World) (result : Result (Result Found MapFault)
   -- what is found is what the board holds, as far as its devices tell
   pub whole : IsTrue old.flash.medium.told → IsTrue old.tpm.told → IfOk result (λ answer. answer ≡ found_of old)
   pub found : IfOk result (λ answer. IfOk answer (λ found. IsFound old found))
+  pub mapped : IfOk result (λ answer. OnOk answer (HasMap old))
+  pub order : IfErr result (λ fault. IsBehindMap fault.device old new)
 
 -- ---- a look at a drive
 

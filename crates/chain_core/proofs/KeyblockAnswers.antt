@@ -16,12 +16,12 @@ pub keyblock_fault : {E : Type 0} (bytes : List ℕ) (signer : PackedKey) (store
     → AsksBehind {Answer = Result Keyblock KeyblockFault} {E = E} (first_fault keyblock_front (keyblock_question bytes signer stored rollback old)) old new (Ok (Err fault))
     → (IsTrue old.told → first_fault keyblock_table (keyblock_question bytes signer stored rollback old) ≡ Some fault) → ChecksKeyblock {E = E} bytes signer stored rollback old new (Ok (Err fault))
 keyblock_fault bytes signer stored rollback old new fault asked behind found =
-    record { asked = asked; behind = behind; fault = found; none = λ told. tt; parts = tt; fits = tt; signed = tt; copy = tt; key = tt }
+    record { asked = asked; behind = behind; fault = found; none = λ told. tt; front = tt; parts = tt; fits = tt; signed = tt; copy = tt; key = tt }
 
 pub keyblock_failed : {E : Type 0} (bytes : List ℕ) (signer : PackedKey) (stored : ℕ) (rollback : Bool) (old new : HookState) (e : E) → Asked old new true
     → first_fault keyblock_front (keyblock_question bytes signer stored rollback old) ≡ None → ChecksKeyblock {E = E} bytes signer stored rollback old new (Err e)
 keyblock_failed bytes signer stored rollback old new e asked front =
-    record { asked = asked; behind = behind_all _ old new (Err e) front; fault = λ told. tt; none = λ told. tt; parts = tt; fits = tt; signed = tt; copy = tt; key = tt }
+    record { asked = asked; behind = behind_all _ old new (Err e) front; fault = λ told. tt; none = λ told. tt; front = tt; parts = tt; fits = tt; signed = tt; copy = tt; key = tt }
 
 pub keyblock_good : {E : Type 0} (bytes : List ℕ) (signer : PackedKey) (stored : ℕ) (rollback : Bool) (old new : HookState) (keyblock : Keyblock) → Asked old new false
     → first_fault keyblock_front (keyblock_question bytes signer stored rollback old) ≡ None
@@ -34,6 +34,7 @@ keyblock_good bytes signer stored rollback old new keyblock asked front none par
   behind = behind_all _ old new (Ok (Ok keyblock)) front;
   fault = λ told. tt;
   none = none;
+  front = front;
   parts = parts;
   fits = fits;
   signed = signed;

@@ -1,6 +1,7 @@
 -- What the checks of the parts say of a slot, and answers of its check.
 use Rattle.std.proofs.Common.{◌≡◌, ℕ, ◌≤◌, Bool, false, Option, Some, None, List, Result, Ok, Err, length, take, drop, refl, ap, sym, subst, ◌∙◌}
-use Rattle.std.specs.Prelude.{IsTrue}
+use Rattle.std.specs.Prelude.{IsTrue, IsSome, is_some}
+use Rattle.std.proofs.lemmas.Bool.{false≢true}
 use Rattle.wire_core.specs.FirstFault.{first_fault}
 use Rattle.board_core.specs.Flash.{FlashState}
 use Rattle.board_core.specs.Hook.{HookState}
@@ -18,10 +19,10 @@ use Rattle.preamble_core.specs.declared.fault.FwPreambleFault.{FwPreambleFault}
 use Rattle.rom_core.specs.Gbb.{Looks, area_bytes}
 use Rattle.rom_core.specs.declared.area.Area.{Area}
 use Rattle.chain_core.specs.Accepted.{Asked, key_of}
-use Rattle.chain_core.specs.Tables.{KeyblockQuestion, keyblock_table, PreambleQuestion, preamble_table, firmware_preamble, BodyQuestion}
+use Rattle.chain_core.specs.Tables.{KeyblockQuestion, keyblock_table, keyblock_front, PreambleQuestion, preamble_table, firmware_preamble, BodyQuestion}
 use Rattle.chain_core.specs.Checking.{keyblock_question, view_question, ChecksKeyblock, preamble_question, ChecksPreamble}
 use Rattle.chain_core.specs.Bodies.{is_store, is_hook, body_question}
-use Rattle.chain_core.specs.Slot.{SlotQuestion, slot_keyblock, slot_preamble, slot_body, slot_ok, slot_fault, copy_of, asked_of_keyblock, asked_of_preamble, asked_of_body, FirmwareChain, VerifiesSlot}
+use Rattle.chain_core.specs.Slot.{SlotQuestion, slot_keyblock, slot_preamble, slot_body, slot_ok, slot_front, slot_fault, copy_of, asked_of_keyblock, asked_of_preamble, asked_of_body, FirmwareChain, VerifiesSlot}
 use Rattle.chain_core.specs.declared.fault.Failure.{Failure}
 use Rattle.chain_core.specs.declared.slot_fault.SlotFault.{SlotFault}
 use Rattle.chain_core.specs.declared.slot_fault.SlotOk.{SlotOk}
@@ -31,16 +32,23 @@ use Rattle.chain_core.proofs.Slots.{Found, Parts, chain_of, no_older, nowhere}
 
 -- ---- answers
 
+-- where none of the first lines holds, nothing is said of a hook that is not asked
+pub front_absurd : {Fault : Type 0} (front : Option Fault) (P : Type 0) → front ≡ None → IsSome front → P
+front_absurd front P none some = absurd (false≢true (ap is_some (sym none) ∙ some))
+
 -- the same, of a slot that begins with these bytes
 abbrev pub with_head : SlotQuestion → List ℕ → SlotQuestion
 with_head q head = record q { vblock = head }
 
 pub slot_faulted : (q : SlotQuestion) (head : List ℕ) (flash flash' : FlashState) (hook hook' : HookState) (out : List ℕ) (fault : SlotFault) → Looks flash flash' false → Asked hook hook' false
-    → (IsTrue flash.medium.told → head ≡ q.vblock) → (IsTrue flash.medium.told → IsTrue hook.told → slot_fault (with_head q head) ≡ Some fault)
+    → (IsTrue flash.medium.told → head ≡ q.vblock) → (IsSome (slot_front (with_head q head)) → hook' ≡ hook)
+    → (IsTrue flash.medium.told → IsTrue hook.told → slot_fault (with_head q head) ≡ Some fault)
     → VerifiesSlot q flash flash' hook hook' out (Ok (Err fault))
-slot_faulted q head flash flash' hook hook' out fault looks asked filled found = record {
+slot_faulted q head flash flash' hook hook' out fault looks asked filled unasked found = record {
   looks = looks;
   asked = asked;
+  unasked = λ told. subst (λ (h : List ℕ). IsSome (slot_front (with_head q h)) → hook' ≡ hook) (filled told) unasked;
+  failed = λ told. tt;
   fault = λ told told'. subst (λ (h : List ℕ). slot_fault (with_head q h) ≡ Some fault) (filled told) (found told told');
   none = λ told told'. tt;
   ok = λ told. tt;
@@ -50,11 +58,15 @@ slot_faulted q head flash flash' hook hook' out fault looks asked filled found =
   body = λ told. tt;
 }
 
-pub slot_failed : (q : SlotQuestion) (flash flash' : FlashState) (hook hook' : HookState) (out : List ℕ) (failure : Failure) → Looks flash flash' (is_store failure) → Asked hook hook' (is_hook failure)
+pub slot_failed : (q : SlotQuestion) (head : List ℕ) (flash flash' : FlashState) (hook hook' : HookState) (out : List ℕ) (failure : Failure) → Looks flash flash' (is_store failure) → Asked hook hook' (is_hook failure)
+    → (IsTrue flash.medium.told → head ≡ q.vblock) → (IsSome (slot_front (with_head q head)) → hook' ≡ hook)
+    → (IsTrue (is_hook failure) → slot_front (with_head q head) ≡ None)
     → VerifiesSlot q flash flash' hook hook' out (Err failure)
-slot_failed q flash flash' hook hook' out failure looks asked = record {
+slot_failed q head flash flash' hook hook' out failure looks asked filled unasked none = record {
   looks = looks;
   asked = asked;
+  unasked = λ told. subst (λ (h : List ℕ). IsSome (slot_front (with_head q h)) → hook' ≡ hook) (filled told) unasked;
+  failed = λ told. subst (λ (h : List ℕ). IsTrue (is_hook failure) → slot_front (with_head q h) ≡ None) (filled told) none;
   fault = λ told told'. tt;
   none = λ told told'. tt;
   ok = λ told. tt;
@@ -76,11 +88,13 @@ not_older : (q : SlotQuestion) (ok : SlotOk) → ok ≡ slot_ok q → Found q �
 not_older q ok is found checked = subst (λ (o : SlotOk). q.stored ≤ o.version) (sym is) (no_older firmware_preamble (asked_of_preamble q) found.preamble checked)
 
 pub slot_good : (q : SlotQuestion) (head : List ℕ) (flash flash' : FlashState) (hook hook' : HookState) (out : List ℕ) (ok : SlotOk) → Looks flash flash' false → Asked hook hook' false
-    → (IsTrue flash.medium.told → head ≡ q.vblock) → Good (with_head q head) flash hook out ok → VerifiesSlot q flash flash' hook hook' out (Ok (Ok ok))
-slot_good q head flash flash' hook hook' out ok looks asked filled good =
+    → (IsTrue flash.medium.told → head ≡ q.vblock) → slot_front (with_head q head) ≡ None → Good (with_head q head) flash hook out ok → VerifiesSlot q flash flash' hook hook' out (Ok (Ok ok))
+slot_good q head flash flash' hook hook' out ok looks asked filled front good =
     record {
       looks = looks;
       asked = asked;
+      unasked = λ told. subst (λ (h : List ℕ). IsSome (slot_front (with_head q h)) → hook' ≡ hook) (filled told) (front_absurd _ _ front);
+      failed = λ told. tt;
       fault = λ told told'. tt;
       none = λ told told'.
           let found = good.found told told' in
@@ -97,6 +111,7 @@ slot_good q head flash flash' hook hook' out ok looks asked filled good =
 pub record GoodKeyblock (bytes : List ℕ) (signer : PackedKey) (stored : ℕ) (rollback : Bool) (old new : HookState) (keyblock : Keyblock) : Type 0 where
   pub asked : Asked old new false
   pub none : IsTrue old.told → first_fault keyblock_table (keyblock_question bytes signer stored rollback old) ≡ None
+  pub front : first_fault keyblock_front (keyblock_question bytes signer stored rollback old) ≡ None
   pub parts : keyblock ≡ keyblock_in seals.Signature bytes
   pub fits : KeyblockFits seals.Signature bytes keyblock
   pub signed : KeyblockIsSigned keyblock
@@ -112,6 +127,7 @@ good_keyblock {E} bytes signer stored rollback old new result answer keyblock ch
     record {
       asked = found.asked;
       none = found.none;
+      front = found.front;
       parts = found.parts;
       fits = found.fits;
       signed = found.signed;

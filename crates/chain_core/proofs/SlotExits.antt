@@ -1,5 +1,5 @@
 -- The exits of the check of a slot.
-use Rattle.std.proofs.Common.{◌≡◌, ℕ, ◌+◌, ◌≤◌, Bool, false, Option, Some, None, List, Result, Ok, Err, length, take, ap, sym, subst, ◌∙◌}
+use Rattle.std.proofs.Common.{◌≡◌, ℕ, ◌+◌, ◌≤◌, Bool, true, false, Option, Some, None, List, Result, Ok, Err, length, take, ap, sym, subst, ◌∙◌}
 use Rattle.std.specs.Prelude.{IsTrue, is_err, OnOk}
 use Rattle.wire_core.specs.FirstFault.{first_fault}
 use Rattle.board_core.specs.Counters.{Observed}
@@ -43,6 +43,11 @@ head_read area buf old new result reads ok long = record {
   looks = record { counters = subst (Observed old.counters new.counters) ok reads.counters; medium = reads.medium };
   filled = λ told. on_ok (buf ≡ range old.medium.bytes area.at (length buf)) result ok (reads.filled told) ∙ ap (range old.medium.bytes area.at) long;
 }
+
+-- the read of the head failed
+pub head_failed : {E : Type 0} (area : Area) (buf : List ℕ) (old new : FlashState) (result : Result Unit E) → Reads area.at buf old new result
+    → is_err result ≡ true → Looks old new true
+head_failed area buf old new result reads failed = record { counters = subst (Observed old.counters new.counters) failed reads.counters; medium = reads.medium }
 
 -- ---- what the checks of keyblock and preamble answered
 

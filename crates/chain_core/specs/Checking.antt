@@ -47,6 +47,8 @@ pub record ChecksKeyblock {E : Type 0} (bytes : List ℕ) (signer : PackedKey) (
   -- a keyblock is answered only where none of its tests holds
   pub none : IsTrue old.told → IfOk result (λ answer. OnOk answer (
       first_fault keyblock_table (keyblock_question bytes signer stored rollback old) ≡ None))
+  -- none of those before that of the signature, told or not
+  pub front : IfOk result (λ answer. OnOk answer (first_fault keyblock_front (keyblock_question bytes signer stored rollback old) ≡ None))
   -- and is what the bytes hold, told or not
   pub parts : IfOk result (λ answer. IfOk answer (λ keyblock. keyblock ≡ keyblock_in seals.Signature bytes))
   -- its parts lie in the bytes

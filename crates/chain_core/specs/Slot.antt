@@ -1,6 +1,6 @@
 -- A firmware slot: its whole fault table, what a good one holds, and the chain of its signatures.
 -- Source: `vb2api_fw_phase3` and `vb2api_check_hash` of vboot_reference (firmware/2lib/2api.c, 2misc.c).
-use Rattle.std.specs.Prelude.{◌≡◌, ℕ, ◌≤◌, Bool, IsTrue, List, ◌++◌, length, take, drop, Option, Some, None, Result, IfOk, IfErr, OnOk}
+use Rattle.std.specs.Prelude.{◌≡◌, ℕ, ◌≤◌, Bool, IsTrue, List, ◌++◌, length, take, drop, Option, Some, None, IsSome, Result, IfOk, IfErr, OnOk}
 use Rattle.wire_core.specs.FirstFault.{Table, first_fault}
 use Rattle.board_core.specs.Flash.{FlashState}
 use Rattle.board_core.specs.Hook.{HookState}
@@ -11,14 +11,15 @@ use Rattle.key_core.specs.Keyblocks.{Keyblock, keyblock_in, KeyblockIsSigned}
 use Rattle.key_core.specs.declared.key.PackedKey.{PackedKey}
 use Rattle.key_core.specs.declared.key.TheConstants.{LARGEST_KEY}
 use Rattle.key_core.specs.declared.keyblock.Seal.TheVariants as seals
+use Rattle.key_core.specs.declared.fault.KeyblockFault.{KeyblockFault}
 use Rattle.preamble_core.specs.Common.{body_signature_of}
 use Rattle.preamble_core.specs.Firmware.{FwPreamble, firmware_preamble_in, FwPreambleIsSigned}
 use Rattle.preamble_core.specs.Lines.{lifted}
 use Rattle.preamble_core.specs.declared.common.PreambleKind.TheVariants as kinds
 use Rattle.rom_core.specs.Gbb.{Looks, area_bytes}
 use Rattle.chain_core.specs.Accepted.{Accepts, Asked, key_of}
-use Rattle.chain_core.specs.Bodies.{store_failed, hook_failed}
-use Rattle.chain_core.specs.Tables.{KeyblockQuestion, keyblock_table, PreambleQuestion, preamble_table, BodyQuestion, body_table, combined_version}
+use Rattle.chain_core.specs.Bodies.{is_hook, store_failed, hook_failed}
+use Rattle.chain_core.specs.Tables.{KeyblockQuestion, keyblock_table, keyblock_front, PreambleQuestion, preamble_table, BodyQuestion, body_table, combined_version}
 use Rattle.chain_core.specs.declared.fault.Failure.{Failure}
 use Rattle.chain_core.specs.declared.slot.SlotRequest.{SlotRequest}
 use Rattle.chain_core.specs.declared.slot_fault.SlotFault.{SlotFault}
@@ -90,6 +91,10 @@ slot_table =
 abbrev pub slot_fault : SlotQuestion → Option SlotFault
 slot_fault q = first_fault slot_table q
 
+-- the first line that holds of those before that of the keyblock's signature
+abbrev pub slot_front : SlotQuestion → Option KeyblockFault
+slot_front q = first_fault keyblock_front (asked_of_keyblock q)
+
 -- ---- a good slot
 
 abbrev pub slot_version : SlotQuestion → ℕ
@@ -135,6 +140,10 @@ pub record VerifiesSlot (q : SlotQuestion) (flash flash' : FlashState) (hook hoo
   -- a flash or a hook that failed counted it once, and both hold what they held
   pub looks : Looks flash flash' (store_failed result)
   pub asked : Asked hook hook' (hook_failed result)
+  -- where a line before that of the keyblock's signature holds, the hook is not asked
+  pub unasked : IsTrue flash.medium.told → IsSome (slot_front q) → hook' ≡ hook
+  -- and a hook that failed hides none of them
+  pub failed : IsTrue flash.medium.told → IfErr result (λ failure. IsTrue (is_hook failure) → slot_front q ≡ None)
   -- a fault is the first of the table
   pub fault : IsTrue flash.medium.told → IsTrue hook.told → IfOk result (λ answer. IfErr answer (λ fault. slot_fault q ≡ Some fault))
   -- a slot is good only where none of its tests holds

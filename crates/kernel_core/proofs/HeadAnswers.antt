@@ -13,17 +13,17 @@ use Rattle.key_core.specs.declared.keyblock.Seal.TheVariants as seals
 use Rattle.key_core.specs.declared.fault.KeyblockFault.{KeyblockFault}
 use Rattle.preamble_core.specs.Kernel.{KernelPreamble, kernel_lines, kernel_preamble_in, KernelPreambleFits, KernelPreambleIsSigned}
 use Rattle.preamble_core.specs.declared.fault.KernelPreambleFault.{KernelPreambleFault}
-use Rattle.chain_core.specs.Accepted.{Asked, key_of}
+use Rattle.chain_core.specs.Accepted.{Asked, AsksBehind, key_of}
 use Rattle.preamble_core.specs.Lines.{lifted}
 use Rattle.chain_core.specs.Tables.{keyblock_table, PreambleQuestion, combined_version}
 use Rattle.chain_core.specs.Checking.{preamble_question, ChecksPreamble}
 use Rattle.chain_core.proofs.Keys.{Known, key_most}
 use Rattle.preamble_core.proofs.Lifted.{lifted-back, append-none}
-use Rattle.chain_core.proofs.Said.{asked_then, told_then}
+use Rattle.chain_core.proofs.Said.{behind_all, asked_then, told_then}
 use Rattle.chain_core.proofs.SlotAnswers.{Copied, copied_key, same_preamble}
 use Rattle.chain_core.proofs.Slots.{accepts_keyblock, accepts_preamble}
 use Rattle.kernel_core.specs.Rules.{hash_is_enough, versions_are_checked}
-use Rattle.kernel_core.specs.KernelTables.{KernelKeyblockQuestion, signed_question, flag_lines, flag_question, signed_table, hashed_table, is_unsigned, kernel_keyblock_fault, kernel_preamble, kernel_preamble_table}
+use Rattle.kernel_core.specs.KernelTables.{KernelKeyblockQuestion, signed_question, flag_lines, flag_question, signed_table, hashed_table, is_unsigned, kernel_keyblock_fault, kernel_keyblock_front, kernel_preamble, kernel_preamble_table}
 use Rattle.kernel_core.specs.Heads.{head_key, behind_keyblock, head_preamble, IsUsableKey, IsHeadOf, HeadQuestion, asked_of_keyblock, asked_of_preamble, first_of, head_fault, head_ok, KeyblockAccepted}
 use Rattle.kernel_core.specs.HeadChecks.{KernelKeyblockRead, ReadBySignature, ChecksKernelKeyblock, kernel_keyblock_question, head_question, VerifiesHead}
 use Rattle.kernel_core.specs.declared.rules.KernelRules.{KernelRules}
@@ -33,11 +33,16 @@ use Rattle.kernel_core.specs.declared.head_fault.HeadOk.{HeadOk}
 
 -- ---- answers
 
-pub head_faulted : {E : Type 0} (q : HeadQuestion) (old new : HookState) (fault : HeadFault) → Asked old new false → (IsTrue old.told → head_fault q ≡ Some fault) → VerifiesHead {E = E} q old new (Ok (Err fault))
-head_faulted q old new fault asked found = record { asked = asked; fault = found; none = λ told. tt; ok = tt; head = tt; chain = λ told. tt }
+pub head_faulted : {E : Type 0} (q : HeadQuestion) (old new : HookState) (fault : HeadFault) → Asked old new false
+    → AsksBehind {Answer = Result HeadOk HeadFault} {E = E} (kernel_keyblock_front (asked_of_keyblock q)) old new (Ok (Err fault))
+    → (IsTrue old.told → head_fault q ≡ Some fault) → VerifiesHead {E = E} q old new (Ok (Err fault))
+head_faulted q old new fault asked behind found =
+    record { asked = asked; behind = behind; fault = found; none = λ told. tt; ok = tt; head = tt; chain = λ told. tt }
 
-pub head_failed : {E : Type 0} (q : HeadQuestion) (old new : HookState) (e : E) → Asked old new true → VerifiesHead {E = E} q old new (Err e)
-head_failed q old new e asked = record { asked = asked; fault = λ told. tt; none = λ told. tt; ok = tt; head = tt; chain = λ told. tt }
+pub head_failed : {E : Type 0} (q : HeadQuestion) (old new : HookState) (e : E) → Asked old new true
+    → kernel_keyblock_front (asked_of_keyblock q) ≡ None → VerifiesHead {E = E} q old new (Err e)
+head_failed q old new e asked front =
+    record { asked = asked; behind = behind_all _ old new (Err e) front; fault = λ told. tt; none = λ told. tt; ok = tt; head = tt; chain = λ told. tt }
 
 -- ---- the keyblock
 
@@ -51,13 +56,14 @@ keyblock_answer vblock key rules old new result answer checks is = subst (Checks
 pub record GoodKeyblock (vblock : List ℕ) (key : PackedKey) (rules : KernelRules) (old new : HookState) (keyblock : Keyblock) : Type 0 where
   pub asked : Asked old new false
   pub none : IsTrue old.told → kernel_keyblock_fault (kernel_keyblock_question vblock key rules old) ≡ None
+  pub front : kernel_keyblock_front (kernel_keyblock_question vblock key rules old) ≡ None
   pub read : KernelKeyblockRead vblock key rules keyblock
 
 pub good_keyblock : {E : Type 0} (vblock : List ℕ) (key : PackedKey) (rules : KernelRules) (old new : HookState) (result : Result (Result Keyblock KeyblockFault) E) (answer : Result Keyblock KeyblockFault) (keyblock : Keyblock)
     → ChecksKernelKeyblock vblock key rules old new result → result ≡ Ok answer → answer ≡ Ok keyblock → GoodKeyblock vblock key rules old new keyblock
 good_keyblock vblock key rules old new result answer keyblock checks is is' =
     let found = keyblock_answer vblock key rules old new result (Ok (Ok keyblock)) checks (is ∙ ap Ok is') in
-    record { asked = found.asked; none = found.none; read = found.read }
+    record { asked = found.asked; none = found.none; front = found.front; read = found.read }
 
 pub usable_fits : (key : Key) → IsUsableKey key → length key.bytes ≤ 2056
 usable_fits key usable = let most = key_most key.algorithm in omega (arith, most, usable.size)
@@ -103,7 +109,7 @@ preamble_asked s opened =
 pub preamble_shown : {E : Type 0} (s : HeadStep) (new : HookState) (fault : KernelPreambleFault) → Opened s → ChecksPreamble {E = E} kernel_preamble s.rest s.packed s.rules.stored s.checked s.hook' new (Ok (Err fault))
     → VerifiesHead {E = E} (asked_head s) s.hook new (Ok (Err (head_faults.Preamble fault)))
 preamble_shown s new fault opened found =
-    head_faulted (asked_head s) s.hook new (head_faults.Preamble fault) (asked_then s.hook s.hook' new false opened.good.asked found.asked) (λ told.
+    head_faulted (asked_head s) s.hook new (head_faults.Preamble fault) (asked_then s.hook s.hook' new false opened.good.asked found.asked) (behind_all _ _ _ _ opened.good.front) (λ told.
     ap (λ (o : Option KeyblockFault). first_of o (first_fault kernel_preamble_table (asked_of_preamble (asked_head s)))) (opened.good.none told)
     ∙ ap (λ (p : PreambleQuestion). first_of None (first_fault kernel_preamble_table p)) (sym (preamble_asked s opened))
     ∙ ap (first_of None) (found.fault (told_then s.hook s.hook' opened.good.asked told)))
@@ -191,6 +197,7 @@ head_good s new preamble ok opened made =
     ap (first_fault kernel_preamble_table) (sym (preamble_asked s opened)) ∙ found.none (told_then s.hook s.hook' opened.good.asked told) in
     record {
       asked = asked_then s.hook s.hook' new false opened.good.asked found.asked;
+      behind = behind_all _ s.hook new (Ok (Ok ok)) opened.good.front;
       fault = λ told. tt;
       none = λ told.
           ap (λ (o : Option KeyblockFault). first_of o (first_fault kernel_preamble_table (asked_of_preamble q))) (opened.good.none told) ∙ ap (first_of None) (none told);

@@ -10,12 +10,12 @@ use Rattle.key_core.specs.declared.key.PackedKey.{PackedKey}
 use Rattle.preamble_core.specs.Common.{body_signature_of}
 use Rattle.preamble_core.specs.declared.common.PreambleKind.TheVariants as kinds
 use Rattle.rom_core.proofs.Ranges.{range-range}
-use Rattle.chain_core.specs.Accepted.{Asked, key_of, is_enrolled}
+use Rattle.chain_core.specs.Accepted.{Asked, AsksBehind, key_of, is_enrolled}
 use Rattle.chain_core.specs.Bodies.{is_store, is_hook}
-use Rattle.chain_core.specs.Tables.{body_table}
+use Rattle.chain_core.specs.Tables.{BodyQuestion, body_table, body_front}
 use Rattle.chain_core.specs.declared.fault.BodyFault.{BodyFault}
 use Rattle.chain_core.specs.declared.fault.Failure.{Failure}
-use Rattle.chain_core.proofs.Said.{asked_none}
+use Rattle.chain_core.proofs.Said.{asked_none, behind_none, behind_all}
 use Rattle.chain_core.proofs.SlotAnswers.{same_body}
 use Rattle.kernel_core.proofs.DiskLooks.{looks_none}
 use Rattle.chain_core.proofs.Slots.{accepts_body}
@@ -47,11 +47,13 @@ rest_inside first sectors at len all many front fits inside =
 
 pub disk_body_fault : (key : PackedKey) (signature : List ℕ) (first sectors at len : ℕ) (disk disk' : DiskState) (hook hook' : HookState) (body : List ℕ) (fault : BodyFault)
     → LooksAtDisk (read_sectors sectors at len) disk disk' false → Asked hook hook' false
+    → AsksBehind {Answer = Option BodyFault} {E = Failure} (first_fault body_front (disk_body_question key signature first sectors at len disk hook)) hook hook' (Ok (Some fault))
     → (IsTrue disk.medium.told → IsTrue hook.told → first_fault body_table (disk_body_question key signature first sectors at len disk hook) ≡ Some fault)
     → ChecksDiskBody key signature first sectors at len disk disk' hook hook' body (Ok (Some fault))
-disk_body_fault key signature first sectors at len disk disk' hook hook' body fault looks asked found = record {
+disk_body_fault key signature first sectors at len disk disk' hook hook' body fault looks asked behind found = record {
   looks = looks;
   asked = asked;
+  behind = behind;
   fault = λ told told'. sym (found told told');
   within = tt;
   many = tt;
@@ -62,14 +64,16 @@ disk_body_fault key signature first sectors at len disk disk' hook hook' body fa
 pub disk_body_unread : (key : PackedKey) (signature : List ℕ) (first sectors at len : ℕ) (disk : DiskState) (hook : HookState) (body : List ℕ) (fault : BodyFault)
     → first_fault body_table (disk_body_question key signature first sectors at len disk hook) ≡ Some fault → ChecksDiskBody key signature first sectors at len disk disk hook hook body (Ok (Some fault))
 disk_body_unread key signature first sectors at len disk hook body fault found =
-    disk_body_fault key signature first sectors at len disk disk hook hook body fault (looks_none _ disk) (asked_none hook) (λ told told'. found)
+    disk_body_fault key signature first sectors at len disk disk hook hook body fault (looks_none _ disk) (asked_none hook) (behind_none _ hook _) (λ told told'. found)
 
 pub disk_body_failed : (key : PackedKey) (signature : List ℕ) (first sectors at len : ℕ) (disk disk' : DiskState) (hook hook' : HookState) (body : List ℕ) (failure : Failure)
     → LooksAtDisk (read_sectors sectors at len) disk disk' (is_store failure) → Asked hook hook' (is_hook failure)
+    → first_fault body_front (disk_body_question key signature first sectors at len disk hook) ≡ None
     → ChecksDiskBody key signature first sectors at len disk disk' hook hook' body (Err failure)
-disk_body_failed key signature first sectors at len disk disk' hook hook' body failure looks asked = record {
+disk_body_failed key signature first sectors at len disk disk' hook hook' body failure looks asked front = record {
   looks = looks;
   asked = asked;
+  behind = behind_all _ hook hook' (Err failure) front;
   fault = λ told told'. tt;
   within = tt;
   many = tt;
@@ -77,13 +81,14 @@ disk_body_failed key signature first sectors at len disk disk' hook hook' body f
 }
 
 pub disk_body_good : (key : PackedKey) (signature : List ℕ) (first sectors at len : ℕ) (disk disk' : DiskState) (hook hook' : HookState) (body : List ℕ)
-    → LooksAtDisk (read_sectors sectors at len) disk disk' false → Asked hook hook' false
+    → LooksAtDisk (read_sectors sectors at len) disk disk' false → Asked hook hook' false → first_fault body_front (disk_body_question key signature first sectors at len disk hook) ≡ None
     → (IsTrue disk.medium.told → IsTrue hook.told → first_fault body_table (disk_body_question key signature first sectors at len disk hook) ≡ None)
     → len ≤ most_of sectors at → length body ≡ len → (IsTrue disk.medium.told → body ≡ range disk.medium.bytes (first * 512 + at) len)
     → ChecksDiskBody key signature first sectors at len disk disk' hook hook' body (Ok None)
-disk_body_good key signature first sectors at len disk disk' hook hook' body looks asked none within many filled = record {
+disk_body_good key signature first sectors at len disk disk' hook hook' body looks asked front none within many filled = record {
   looks = looks;
   asked = asked;
+  behind = behind_all _ hook hook' (Ok None) front;
   fault = λ told told'. sym (none told told');
   within = within;
   many = many;
@@ -113,12 +118,22 @@ body_asked vblock head packed signature first sectors disk hook taken =
     same_body (disk_body_question packed signature first sectors head.body_at head.body_len disk hook) (kernel_body_question vblock head first sectors disk hook)
     refl refl refl taken.key taken.signature_is taken.signature_size refl
 
+-- and the hook is asked behind the same lines
+behind_same : (vblock : List ℕ) (head : HeadOk) (packed : PackedKey) (signature : List ℕ) (first sectors : ℕ) (disk : DiskState)
+    (hook hook' : HookState) (result : Result (Option BodyFault) Failure) → TakenFrom vblock packed signature
+    → AsksBehind (first_fault body_front (disk_body_question packed signature first sectors head.body_at head.body_len disk hook)) hook hook' result
+    → AsksBehind (first_fault body_front (kernel_body_question vblock head first sectors disk hook)) hook hook' result
+behind_same vblock head packed signature first sectors disk hook hook' result taken behind =
+    subst (λ (q : BodyQuestion). AsksBehind (first_fault body_front q) hook hook' result)
+    (body_asked vblock head packed signature first sectors disk hook taken) behind
+
 pub body_of_head : (vblock : List ℕ) (head : HeadOk) (packed : PackedKey) (signature : List ℕ) (first sectors : ℕ) (disk disk' : DiskState) (hook hook' : HookState) (out : List ℕ) (result : Result (Option BodyFault) Failure)
     → IsHeadOf vblock head → length vblock ≡ 65536 → 128 ≤ sectors → TakenFrom vblock packed signature → ChecksDiskBody packed signature first sectors head.body_at head.body_len disk disk' hook hook' out result
     → VerifiesKernelBody vblock head first sectors disk disk' hook hook' out result
 body_of_head vblock head packed signature first sectors disk disk' hook hook' out (Err failure) is long many_sectors taken checks = record {
   looks = checks.looks;
   asked = checks.asked;
+  behind = behind_same vblock head packed signature first sectors disk hook hook' _ taken checks.behind;
   fault = λ told told'. tt;
   many = tt;
   body = λ told. tt;
@@ -127,6 +142,7 @@ body_of_head vblock head packed signature first sectors disk disk' hook hook' ou
 body_of_head vblock head packed signature first sectors disk disk' hook hook' out (Ok (Some fault)) is long many_sectors taken checks = record {
   looks = checks.looks;
   asked = checks.asked;
+  behind = behind_same vblock head packed signature first sectors disk hook hook' _ taken checks.behind;
   fault = λ told told'. checks.fault told told' ∙ ap (first_fault body_table) (body_asked vblock head packed signature first sectors disk hook taken);
   many = tt;
   body = λ told. tt;
@@ -140,6 +156,7 @@ body_of_head vblock head packed signature first sectors disk disk' hook hook' ou
     record {
       looks = checks.looks;
       asked = checks.asked;
+      behind = behind_same vblock head packed signature first sectors disk hook hook' _ taken checks.behind;
       fault = found;
       many = checks.many;
       body = λ told. checks.filled told ∙ in_partition disk.medium.bytes first sectors head.body_at head.body_len (fits_in sectors head.body_at head.body_len many_sectors front checks.within);

@@ -1,6 +1,6 @@
 -- Answers of the check of a kernel's keyblock.
 use Rattle.std.proofs.Common.{◌≡◌, ℕ, Bool, true, false, cond, Option, Some, None, List, Result, Ok, Err, refl, sym, ap, subst, ◌∙◌}
-use Rattle.std.specs.Prelude.{IsTrue, ◌&&◌, nat_le, IfOk, IfErr, OnOk}
+use Rattle.std.specs.Prelude.{IsTrue, ◌&&◌, nat_le, is_some, IfOk, IfErr, OnOk}
 use Rattle.wire_core.specs.FirstFault.{first_fault}
 use Rattle.board_core.specs.Hook.{HookState}
 use Rattle.key_core.specs.Keyblocks.{Keyblock, keyblock_in, KeyblockFits}
@@ -8,14 +8,15 @@ use Rattle.key_core.specs.Parts.{Key}
 use Rattle.key_core.specs.declared.key.PackedKey.{PackedKey}
 use Rattle.key_core.specs.declared.keyblock.Seal.TheVariants as seals
 use Rattle.key_core.specs.declared.fault.KeyblockFault.{KeyblockFault}
-use Rattle.chain_core.specs.Accepted.{Asked}
+use Rattle.chain_core.specs.Accepted.{Asked, AsksBehind}
 use Rattle.chain_core.specs.SlotNumbers.{keyblock_number}
-use Rattle.chain_core.specs.Tables.{keyblock_table, data_key_lines}
+use Rattle.chain_core.specs.Tables.{keyblock_table, keyblock_front, data_key_lines}
 use Rattle.chain_core.specs.Checking.{ChecksKeyblock, view_question}
+use Rattle.chain_core.proofs.Said.{behind_all}
 use Rattle.chain_core.proofs.SlotExits.{keyblock_answer}
 use Rattle.chain_core.proofs.Keys.{data_key_known, data_key_range}
 use Rattle.kernel_core.specs.Rules.{hash_is_enough, versions_are_checked}
-use Rattle.kernel_core.specs.KernelTables.{KernelKeyblockQuestion, signed_question, FlagQuestion, flag_lines, flag_question, signed_table, hashed_table, kernel_keyblock_fault}
+use Rattle.kernel_core.specs.KernelTables.{KernelKeyblockQuestion, signed_question, FlagQuestion, flag_lines, flag_question, signed_table, hashed_table, kernel_keyblock_fault, kernel_keyblock_front}
 use Rattle.kernel_core.specs.Heads.{IsUsableKey}
 use Rattle.kernel_core.specs.HeadChecks.{kernel_keyblock_question, ReadBySignature, KernelKeyblockRead, ChecksKernelKeyblock}
 use Rattle.kernel_core.specs.declared.rules.KernelRules.{KernelRules}
@@ -24,13 +25,58 @@ use Rattle.kernel_core.proofs.KeyblockTables.{signed_fault, flags_fault, no_sign
 -- ---- answers
 
 pub kernel_keyblock_faulty : {E : Type 0} (bytes : List ℕ) (signer : PackedKey) (rules : KernelRules) (old new : HookState) (fault : KeyblockFault) → Asked old new false
+    → AsksBehind {Answer = Result Keyblock KeyblockFault} {E = E} (kernel_keyblock_front (kernel_keyblock_question bytes signer rules old)) old new (Ok (Err fault))
     → (IsTrue old.told → kernel_keyblock_fault (kernel_keyblock_question bytes signer rules old) ≡ Some fault) → ChecksKernelKeyblock {E = E} bytes signer rules old new (Ok (Err fault))
-kernel_keyblock_faulty bytes signer rules old new fault asked found = record { asked = asked; fault = found; none = λ told. tt; read = tt }
+kernel_keyblock_faulty bytes signer rules old new fault asked behind found =
+    record { asked = asked; behind = behind; fault = found; none = λ told. tt; front = tt; read = tt }
 
 pub kernel_keyblock_good : {E : Type 0} (bytes : List ℕ) (signer : PackedKey) (rules : KernelRules) (old new : HookState) (keyblock : Keyblock) → Asked old new false
+    → AsksBehind {Answer = Result Keyblock KeyblockFault} {E = E} (kernel_keyblock_front (kernel_keyblock_question bytes signer rules old)) old new (Ok (Ok keyblock)) → kernel_keyblock_front (kernel_keyblock_question bytes signer rules old) ≡ None
     → (IsTrue old.told → kernel_keyblock_fault (kernel_keyblock_question bytes signer rules old) ≡ None) → KernelKeyblockRead bytes signer rules keyblock
     → ChecksKernelKeyblock {E = E} bytes signer rules old new (Ok (Ok keyblock))
-kernel_keyblock_good bytes signer rules old new keyblock asked none read = record { asked = asked; fault = λ told. tt; none = none; read = read }
+kernel_keyblock_good bytes signer rules old new keyblock asked behind front none read =
+    record { asked = asked; behind = behind; fault = λ told. tt; none = none; front = front; read = read }
+
+pub kernel_keyblock_failed : {E : Type 0} (bytes : List ℕ) (signer : PackedKey) (rules : KernelRules) (old new : HookState) (e : E) → Asked old new true
+    → AsksBehind {Answer = Result Keyblock KeyblockFault} {E = E} (kernel_keyblock_front (kernel_keyblock_question bytes signer rules old)) old new (Err e) → ChecksKernelKeyblock {E = E} bytes signer rules old new (Err e)
+kernel_keyblock_failed bytes signer rules old new e asked behind =
+    record { asked = asked; behind = behind; fault = λ told. tt; none = λ told. tt; front = tt; read = tt }
+
+-- ---- what is found before the hook is asked
+
+-- where the signature's lines find nothing, nothing is found
+no_fault_first : (enough : Bool) (hashed front : Option KeyblockFault) → front ≡ None → cond (enough && is_some front) hashed front ≡ None
+no_fault_first true hashed front none = ap (λ (o : Option KeyblockFault). cond (is_some o) hashed o) none
+no_fault_first false hashed front none = none
+
+some_first : (enough : Bool) (hashed front : Option KeyblockFault) → is_some (cond (enough && is_some front) hashed front) ≡ true → is_some front ≡ true
+some_first true hashed None some = some
+some_first false hashed None some = some
+some_first enough hashed (Some fault) some = refl
+
+-- nor where the hash's lines find nothing, and a hash is enough
+no_hashed_first : (enough : Bool) (hashed front : Option KeyblockFault) → enough ≡ true → hashed ≡ None → cond (enough && is_some front) hashed front ≡ None
+no_hashed_first true hashed None is none = refl
+no_hashed_first true hashed (Some fault) is none = none
+no_hashed_first false hashed front is none = absurd cc
+
+pub front_signed : (q : KernelKeyblockQuestion) → first_fault keyblock_front (signed_question q) ≡ None → kernel_keyblock_front q ≡ None
+front_signed q none = no_fault_first (hash_is_enough q.rules) (first_fault hashed_table q.bytes) _ none
+
+front_hashed : (q : KernelKeyblockQuestion) → hash_is_enough q.rules ≡ true → first_fault hashed_table q.bytes ≡ None → kernel_keyblock_front q ≡ None
+front_hashed q enough none = no_hashed_first (hash_is_enough q.rules) (first_fault hashed_table q.bytes) _ enough none
+
+-- so the hook is asked behind it, as it is behind the signature's lines
+pub behind_ok : {E Answer Found : Type 0} (q : KernelKeyblockQuestion) (old new : HookState) (answer : Answer) (found : Found)
+    → AsksBehind {E = E} (first_fault keyblock_front (signed_question q)) old new (Ok found)
+    → AsksBehind {E = E} (kernel_keyblock_front q) old new (Ok answer)
+behind_ok q old new answer found behind =
+    record { unasked = λ some. behind.unasked (some_first (hash_is_enough q.rules) (first_fault hashed_table q.bytes) _ some); failed = tt }
+
+pub behind_err : {E Answer : Type 0} (q : KernelKeyblockQuestion) (old new : HookState) (e : E)
+    → AsksBehind {Answer = Answer} (first_fault keyblock_front (signed_question q)) old new (Err e)
+    → AsksBehind {Answer = Answer} (kernel_keyblock_front q) old new (Err e)
+behind_err q old new e behind = behind_all _ old new (Err e) (front_signed q behind.failed)
 
 -- ---- what is read
 
@@ -98,10 +144,13 @@ pub hashed_answer : {E : Type 0} (bytes : List ℕ) (signer : PackedKey) (rules 
     → IfOk answer (λ keyblock. keyblock ≡ keyblock_in seals.Hash bytes) → IfOk answer (KeyblockFits seals.Hash bytes) → IfOk answer (λ keyblock. first_fault data_key_lines (view_question keyblock.data_key 0 false) ≡ None)
     → ChecksKernelKeyblock {E = E} bytes signer rules old new (Ok answer)
 hashed_answer bytes signer rules old new fault b (Ok keyblock) faulty is yes' found none parts fits key =
-    kernel_keyblock_good bytes signer rules old new keyblock faulty.asked (λ told. dropped (kernel_keyblock_question bytes signer rules old) fault b (faulty.fault told) is yes' ∙ none)
-    (read_hashed bytes signer rules keyblock (enough_of (hash_is_enough rules) (nat_le (keyblock_number fault) 13) b is yes') parts fits key)
+    let q = kernel_keyblock_question bytes signer rules old in
+    let enough = enough_of (hash_is_enough rules) (nat_le (keyblock_number fault) 13) b is yes' in
+    kernel_keyblock_good bytes signer rules old new keyblock faulty.asked (behind_ok q old new (Ok keyblock) _ faulty.behind) (front_hashed q enough none) (λ told. dropped (kernel_keyblock_question bytes signer rules old) fault b (faulty.fault told) is yes' ∙ none)
+    (read_hashed bytes signer rules keyblock enough parts fits key)
 hashed_answer bytes signer rules old new fault b (Err other) faulty is yes' found none parts fits key =
-    kernel_keyblock_faulty bytes signer rules old new other faulty.asked (λ told. dropped (kernel_keyblock_question bytes signer rules old) fault b (faulty.fault told) is yes' ∙ found)
+    let q = kernel_keyblock_question bytes signer rules old in
+    kernel_keyblock_faulty bytes signer rules old new other faulty.asked (behind_ok q old new (Err other) _ faulty.behind) (λ told. dropped (kernel_keyblock_question bytes signer rules old) fault b (faulty.fault told) is yes' ∙ found)
 
 abbrev flags_of : ℕ → KernelRules → FlagQuestion
 flags_of flags rules = record { flags = flags; rules = rules }

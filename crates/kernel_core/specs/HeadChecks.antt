@@ -6,10 +6,10 @@ use Rattle.key_core.specs.Keyblocks.{Keyblock, keyblock_in, data_key_of, Keybloc
 use Rattle.key_core.specs.declared.key.PackedKey.{PackedKey}
 use Rattle.key_core.specs.declared.keyblock.Seal.TheVariants as seals
 use Rattle.key_core.specs.declared.fault.KeyblockFault.{KeyblockFault}
-use Rattle.chain_core.specs.Accepted.{Asked, key_of}
+use Rattle.chain_core.specs.Accepted.{Asked, AsksBehind, key_of}
 use Rattle.kernel_core.specs.Rules.{hash_is_enough}
-use Rattle.kernel_core.specs.KernelTables.{KernelKeyblockQuestion, kernel_keyblock_fault}
-use Rattle.kernel_core.specs.Heads.{IsUsableKey, IsHeadOf, HeadQuestion, head_fault, head_ok, HeadChain}
+use Rattle.kernel_core.specs.KernelTables.{KernelKeyblockQuestion, kernel_keyblock_fault, kernel_keyblock_front}
+use Rattle.kernel_core.specs.Heads.{IsUsableKey, IsHeadOf, HeadQuestion, asked_of_keyblock, head_fault, head_ok, HeadChain}
 use Rattle.kernel_core.specs.declared.rules.KernelRules.{KernelRules}
 use Rattle.kernel_core.specs.declared.head_fault.HeadFault.{HeadFault}
 use Rattle.kernel_core.specs.declared.head_fault.HeadOk.{HeadOk}
@@ -42,12 +42,16 @@ pub record ChecksKernelKeyblock {E : Type 0} (bytes : List ℕ) (signer : Packed
     (old new : HookState) (result : Result (Result Keyblock KeyblockFault) E) : Type 0 where
   -- a hook that failed counted it once, and it holds what it held
   pub asked : Asked old new (is_err result)
+  -- it is asked only where no fault is found before
+  pub behind : AsksBehind (kernel_keyblock_front (kernel_keyblock_question bytes signer rules old)) old new result
   -- a fault is the one that the tables find
   pub fault : IsTrue old.told → IfOk result (λ answer. IfErr answer (λ fault.
       kernel_keyblock_fault (kernel_keyblock_question bytes signer rules old) ≡ Some fault))
   -- a keyblock is answered only where they find none
   pub none : IsTrue old.told → IfOk result (λ answer. OnOk answer (
       kernel_keyblock_fault (kernel_keyblock_question bytes signer rules old) ≡ None))
+  -- none of those before the hook is asked, told or not
+  pub front : IfOk result (λ answer. OnOk answer (kernel_keyblock_front (kernel_keyblock_question bytes signer rules old) ≡ None))
   -- and is what the bytes hold, told or not
   pub read : IfOk result (λ answer. IfOk answer (KernelKeyblockRead bytes signer rules))
 
@@ -59,6 +63,8 @@ head_question vblock key rules hook = record { vblock = vblock; rows = hook.rows
 pub record VerifiesHead {E : Type 0} (q : HeadQuestion) (old new : HookState) (result : Result (Result HeadOk HeadFault) E) : Type 0 where
   -- a hook that failed counted it once, and it holds what it held
   pub asked : Asked old new (is_err result)
+  -- it is asked only where no fault of the keyblock is found before
+  pub behind : AsksBehind (kernel_keyblock_front (asked_of_keyblock q)) old new result
   -- a fault is the one that the tables find
   pub fault : IsTrue old.told → IfOk result (λ answer. IfErr answer (λ fault. head_fault q ≡ Some fault))
   -- a head is good only where they find none

@@ -11,9 +11,9 @@ use Rattle.key_core.specs.declared.key.PackedKey.{PackedKey}
 use Rattle.preamble_core.specs.Common.{body_signature_of}
 use Rattle.preamble_core.specs.declared.common.PreambleKind.TheVariants as kinds
 use Rattle.chain_core.specs.Hashing.{HoldsMessage}
-use Rattle.chain_core.specs.Accepted.{Accepts, Asked, key_of}
+use Rattle.chain_core.specs.Accepted.{Accepts, Asked, AsksBehind, key_of}
 use Rattle.chain_core.specs.Bodies.{store_failed, hook_failed}
-use Rattle.chain_core.specs.Tables.{BodyQuestion, body_table}
+use Rattle.chain_core.specs.Tables.{BodyQuestion, body_table, body_front}
 use Rattle.chain_core.specs.declared.fault.BodyFault.{BodyFault}
 use Rattle.chain_core.specs.declared.fault.Failure.{Failure}
 use Rattle.chain_core.specs.declared.hasher.Hasher.{Hasher}
@@ -110,6 +110,8 @@ pub record ChecksDiskBody (key : PackedKey) (signature : List ℕ) (first sector
   -- a disk or a hook that failed counted it once; at most so many sectors were read
   pub looks : LooksAtDisk (read_sectors sectors at len) disk disk' (store_failed result)
   pub asked : Asked hook hook' (hook_failed result)
+  -- the hook is asked only where no line before that of the signature holds
+  pub behind : AsksBehind (first_fault body_front (disk_body_question key signature first sectors at len disk hook)) hook hook' result
   -- the answer is the first fault of the table
   pub fault : IsTrue disk.medium.told → IsTrue hook.told → IfOk result (λ fault.
       fault ≡ first_fault body_table (disk_body_question key signature first sectors at len disk hook))
@@ -144,6 +146,8 @@ pub record VerifiesKernelBody (vblock : List ℕ) (head : HeadOk) (first sectors
   -- a disk or a hook that failed counted it once; no sector of the first 128 was read, and of the others at most these
   pub looks : LooksAtDisk (read_sectors sectors head.body_at head.body_len) disk disk' (store_failed result)
   pub asked : Asked hook hook' (hook_failed result)
+  -- the hook is asked only where no line before that of the signature holds
+  pub behind : AsksBehind (first_fault body_front (kernel_body_question vblock head first sectors disk hook)) hook hook' result
   -- the answer is the first fault of the body table
   pub fault : IsTrue disk.medium.told → IsTrue hook.told → IfOk result (λ fault.
       fault ≡ first_fault body_table (kernel_body_question vblock head first sectors disk hook))

@@ -16,7 +16,7 @@ use Rattle.preamble_core.specs.Kernel.{KernelPreamble, kernel_lines, kernel_prea
 use Rattle.preamble_core.specs.declared.common.PreambleKind.TheVariants as kinds
 use Rattle.preamble_core.specs.declared.fault.KernelPreambleFault.{KernelPreambleFault}
 use Rattle.preamble_core.specs.Lines.{lifted}
-use Rattle.chain_core.specs.Tables.{KeyblockQuestion, keyblock_table, DataKeyQuestion, data_key_lines, PreambleQuestion, Form, table_of}
+use Rattle.chain_core.specs.Tables.{KeyblockQuestion, keyblock_table, keyblock_front, DataKeyQuestion, data_key_lines, PreambleQuestion, Form, table_of}
 use Rattle.wire_core.specs.Fields.{number_at}
 use Rattle.kernel_core.specs.Rules.{hash_is_enough, flags_are_checked, versions_are_checked, developer_flag, recovery_flag}
 use Rattle.kernel_core.specs.declared.rules.KernelRules.{KernelRules}
@@ -116,6 +116,13 @@ is_unsigned q = is_some (first_fault lines_to_seal (signed_question q))
 abbrev pub kernel_keyblock_fault : KernelKeyblockQuestion → Option KeyblockFault
 kernel_keyblock_fault q =
     if hash_is_enough q.rules && is_unsigned q then first_fault hashed_table q.bytes else first_fault signed_table q
+
+-- The fault that is found before the hook is asked: a line before that of the signature. Where a matching hash is enough, it is
+-- dropped, and the table with the hash as seal is taken in its place.
+abbrev pub kernel_keyblock_front : KernelKeyblockQuestion → Option KeyblockFault
+kernel_keyblock_front q =
+    if hash_is_enough q.rules && is_some (first_fault keyblock_front (signed_question q))
+    then first_fault hashed_table q.bytes else first_fault keyblock_front (signed_question q)
 
 -- ---- a kernel preamble
 

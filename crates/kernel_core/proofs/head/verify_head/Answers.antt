@@ -1,15 +1,17 @@
 -- At each exit the calls that were made changed nothing, and what they found decides the answer.
-use Rattle.std.proofs.Common.{◌≡◌, ◌+◌, ◌-◌, ◌≤◌, ◌∙◌, ℕ, Ok, Err, List, sym, ap, subst, length, drop, arith}
+use Rattle.std.proofs.Common.{◌≡◌, ◌+◌, ◌-◌, ◌≤◌, ◌∙◌, ℕ, Ok, Err, List, sym, ap, subst, length, drop, true, arith}
 use Rattle.std.proofs.lemmas.List.{length-drop}
 use Rattle.board_core.specs.declared.device.Failed.{Failed}
 use Rattle.key_core.specs.Parts.{Key}
 use Rattle.chain_core.specs.Tables.{combined_version}
+use Rattle.chain_core.proofs.Said.{asked_then}
 use Rattle.chain_core.proofs.SlotAnswers.{Copied}
 use Rattle.chain_core.specs.Checking.{ChecksPreamble}
 use Rattle.chain_core.proofs.PreambleAnswers.{preamble_answer}
 use Rattle.preamble_core.specs.Common.{CommonPreamble}
+use Rattle.kernel_core.specs.HeadChecks.{head_question}
 use Rattle.kernel_core.specs.KernelTables.{kernel_preamble}
-use Rattle.kernel_core.proofs.HeadAnswers.{GoodKeyblock, good_keyblock, usable_fits, HeadStep, Opened, preamble_shown, head_good}
+use Rattle.kernel_core.proofs.HeadAnswers.{head_faulted, head_failed, keyblock_shown, keyblock_answer, GoodKeyblock, good_keyblock, usable_fits, HeadStep, Opened, preamble_shown, head_good}
 use Rattle.kernel_core.proofs.head.verify_head.Given.{Over}
 use Rattle.kernel_core.proofs.head.verify_head.Goals as goal
 use Rattle.kernel_core.proofs.head.verify_head.Goals.{In-Ok-Ok, After-verify_kernel_preamble, In-Ok-Ok-verify_kernel_preamble}
@@ -81,3 +83,22 @@ returns g c =
         body_len = c.body_len.ensures ∙ ap (λ (p : CommonPreamble). p.body_len) c.common-common.ensures;
       });
     }
+
+pub returns-in-Ok-Err : goal.returns-in-Ok-Err
+returns-in-Ok-Err g c =
+    let q = head_question c.args.vblock.now c.args.request.now.key c.args.request.now.rules (g.H.Hook.state c.args.hook.now) in
+    let found = keyblock_answer _ _ _ _ _ _ (Ok (Err c.in-Ok-Err.fault)) c.verify_kernel_keyblock.ensures.meets (c.in-Ok-Err.is ∙ ap Ok c.in-Ok-Err.field-0-is) in
+    record { meets = head_faulted q _ _ _ found.asked (record { unasked = found.behind.unasked; failed = tt }) (λ told. keyblock_shown q _ (found.fault told)) }
+
+pub returns-in-Err : goal.returns-in-Err
+returns-in-Err g c =
+    let q = head_question c.args.vblock.now c.args.request.now.key c.args.request.now.rules (g.H.Hook.state c.args.hook.now) in
+    let found = c.in-Err.ensures.meets in
+    record { meets = head_failed q _ _ _ found.asked found.behind.failed }
+
+pub returns-in-Err-verify_kernel_preamble : goal.returns-in-Err-verify_kernel_preamble
+returns-in-Err-verify_kernel_preamble g c =
+    let q = head_question c.args.vblock.now c.args.request.now.key c.args.request.now.rules (g.H.Hook.state c.args.hook.now) in
+    let good = good g (goal.at.returns-in-Err-verify_kernel_preamble g c).In-Ok-Ok in
+    let found = c.in-Err-verify_kernel_preamble.ensures.meets in
+    record { meets = head_failed q _ _ _ (asked_then _ _ _ true good.asked found.asked) good.front }

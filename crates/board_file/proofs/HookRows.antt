@@ -79,3 +79,7 @@ IsRead-refused elements i rows element below here read none =
     let place = first_refused (map view (take i elements)) (view element) (map view (drop (suc i) elements)) (map told rows) read.read none in
     let counted : length (map view (take i elements)) ≡ i = length-map (take i elements) view ∙ length-take-le i elements (omega arith) in
     rows_of-at (map view elements) i (ap (position_or_len is_refused) seen ∙ place ∙ counted) (omega (arith, length-map elements view))
+
+-- elements that tell rows are read as these
+pub read_all : (elements : List Data) (rows : List ToldRow) → map row_of elements ≡ map Some rows → rows_of elements ≡ Ok rows
+read_all elements rows same = rows_of-end elements rows (none_refused elements rows same) (all_rows elements rows same)

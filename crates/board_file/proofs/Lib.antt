@@ -2,3 +2,4 @@ mod Checks
 pub mod Digits
 pub mod HookRows
 pub mod Tables
+mod Written

@@ -2,3 +2,4 @@ pub mod HookFile
 pub mod HookAnswer
 pub mod Files
 pub mod FileDisk
+pub mod HookText

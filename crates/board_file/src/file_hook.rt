@@ -4,7 +4,7 @@ ghost use Rattle.std.specs.Prelude.{◌≡◌, ◌≤◌, vec_len, IfOk};
 
 use crate::hook_file::read_hook;
 use crate::hook_file_fault::HookFileFault;
-use crate::hook_text::text_of_rows;
+use crate::hook_text::{HookTextFault, text_of_rows};
 use crate::open_fault::{BoardFile, OpenFault};
 use crate::place::replace_file;
 use board_core::{EnrollFault, Failed, Hook, HookRow, MOST_ROWS, has_row, is_accepted, raise};
@@ -13,9 +13,6 @@ use std::fs::Files;
 use std::{fs, io};
 
 const NEW_HOOK_FILE: &str = "hook.toml.new";
-
-/// The algorithms that a hook file can hold are those under this number.
-const ALGORITHM_COUNT: u32 = 18;
 
 /// A hook whose rows are those of a file, which is read when it is opened. A row that is enrolled makes the file anew and
 /// renames it, so that a stop leaves the old rows or the new ones; comments of the old file are not kept. Each failure of
@@ -89,18 +86,25 @@ impl<R: Files> Hook for FileHook<'_, R> {
         if self.rows.len() >= MOST_ROWS {
             return Err(EnrollFault::Full);
         }
-        if row.algorithm >= ALGORITHM_COUNT {
-            // The file could not be read again.
-            self.faults = raise(self.faults);
-            return Err(EnrollFault::Failed);
-        }
         let Ok(_) = self.rows.reserve(1) else {
             return Err(EnrollFault::Memory);
         };
-        let Ok(text) = text_of_rows(self.alloc, &self.rows, row) else {
-            return Err(EnrollFault::Memory);
+        let text = match text_of_rows(self.alloc, &self.rows, row) {
+            Ok(text) => text,
+            Err(HookTextFault::Memory) => return Err(EnrollFault::Memory),
+            Err(HookTextFault::Algorithm) => {
+                self.faults = raise(self.faults);
+                return Err(EnrollFault::Failed);
+            }
         };
-        if replace_file(self.files, BoardFile::Hook.name(), NEW_HOOK_FILE, &text).is_err() {
+        if replace_file(
+            self.files,
+            BoardFile::Hook.name(),
+            NEW_HOOK_FILE,
+            text.as_bytes(),
+        )
+        .is_err()
+        {
             self.faults = raise(self.faults);
             return Err(EnrollFault::Failed);
         }

@@ -2,3 +2,4 @@ mod Words
 mod Ending
 pub mod SwitchWords
 mod Telling
+mod Statuses

@@ -40,7 +40,10 @@ pub record RunsKernel (drive : Drive) (index : ℕ) (old new : World) (put put' 
   pub works : ShowsOnDrive drive index old new put written answer
   pub ends : EndsKernel drive answer written put' status
 
--- What the command does, and that status 1 is for other words. Want of memory comes before the first call of a device.
-abbrev pub ShowsKernel : Drive → (index : ℕ) → World → World → StreamState → StreamState → Status → Type 0
-ShowsKernel drive index old new put put' status =
-    (RunsKernel drive index old new put put' status ⊎ LacksMemory old new put put' status) × (status ≡ ended.Usage → ⊥)
+-- What the command does.
+pub record ShowsKernel (drive : Drive) (index : ℕ) (old new : World) (put put' : StreamState) (status : Status) : Type 0 where
+  pub runs : RunsKernel drive index old new put put' status ⊎ LacksMemory old new put put' status
+  -- want of memory comes before the first call of a device
+  pub no_memory : status ≡ ended.NoMemory → new ≡ old
+  -- status 1 is for other words
+  pub not_usage : status ≡ ended.Usage → ⊥

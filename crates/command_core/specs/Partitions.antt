@@ -39,11 +39,14 @@ pub record RunsCgpt (call : CgptCall) (old new : World) (put put' : StreamState)
   pub works : WorksOnDrive call old new put written answer
   pub ends : EndsCgpt call.drive answer written put' status
 
--- want of memory comes before the first call of a device
+-- there was no memory, and no device is called
 abbrev pub LacksMemory : World → World → StreamState → StreamState → Status → Type 0
 LacksMemory old new put put' status = (new ≡ old) × Prints answers.OutOfMemory put put' status
 
--- What the command does, and that status 1 is for other words.
-abbrev pub WorksTable : CgptCall → World → World → StreamState → StreamState → Status → Type 0
-WorksTable call old new put put' status =
-    (RunsCgpt call old new put put' status ⊎ LacksMemory old new put put' status) × (status ≡ ended.Usage → ⊥)
+-- What the command does.
+pub record WorksTable (call : CgptCall) (old new : World) (put put' : StreamState) (status : Status) : Type 0 where
+  pub runs : RunsCgpt call old new put put' status ⊎ LacksMemory old new put put' status
+  -- want of memory comes before the first call of a device
+  pub no_memory : status ≡ ended.NoMemory → new ≡ old
+  -- status 1 is for other words
+  pub not_usage : status ≡ ended.Usage → ⊥

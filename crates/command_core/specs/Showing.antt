@@ -48,5 +48,7 @@ pub record Shows (old new : World) (put put' : StreamState) (status : Status) : 
   pub stick : new.stick ≡ old.stick
   pub hook : new.hook ≡ old.hook
   pub map_at : new.map_at ≡ old.map_at
+  -- no memory is taken
+  pub no_memory : status ≡ ended.NoMemory → ⊥
   -- status 1 is for other words
   pub not_usage : status ≡ ended.Usage → ⊥

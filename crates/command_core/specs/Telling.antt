@@ -1,4 +1,4 @@
--- That what a boot came to can be told from its lines.
+-- That what a boot came to can be told from its lines, and how a command ended from the exit status.
 use Rattle.std.specs.Prelude.{◌≡◌, ◌<◌, ◌^◌, Result, Ok, Err, IfSome}
 use Rattle.board_core.specs.declared.device.Fault.{Fault}
 use Rattle.boot_core.specs.declared.outcome.Hand.{Hand}
@@ -6,7 +6,9 @@ use Rattle.boot_core.specs.declared.outcome.Outcome.{Outcome}
 use Rattle.boot_core.specs.declared.outcome.Outcome.TheVariants as outcome
 use Rattle.command_core.specs.declared.answer.Answer.{Answer}
 use Rattle.command_core.specs.declared.answer.Answer.TheVariants as answer
-use Rattle.command_core.specs.Answers.{text_of}
+use Rattle.command_core.specs.declared.answer.Status.{Status}
+use Rattle.command_core.specs.declared.answer.Status.TheVariants.{SinkFault}
+use Rattle.command_core.specs.Answers.{text_of, status_of, exit_code}
 
 -- what a boot came to, or the fault that ended it, as an answer
 abbrev pub boot_answer : Result Outcome Fault → Answer
@@ -37,3 +39,11 @@ FitsAnswer (Err fault) = fault.done < 2 ^ 8
 abbrev pub LinesTellApart : Type 0
 LinesTellApart =
     (a b : Result Outcome Fault) → FitsAnswer a → FitsAnswer b → text_of (boot_answer a) ≡ text_of (boot_answer b) → a ≡ b
+
+-- two statuses with the same number are one
+abbrev pub CodesTellStatus : Type 0
+CodesTellStatus = (a b : Status) → exit_code a ≡ exit_code b → a ≡ b
+
+-- no answer has the status of the sink
+abbrev pub IsSinkStatusAlone : Type 0
+IsSinkStatusAlone = (answer : Answer) → status_of answer ≡ SinkFault → ⊥

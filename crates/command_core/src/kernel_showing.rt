@@ -57,6 +57,7 @@ fn show_on_drive<F: Flash, T: Tpm, D: Disk, E: Disk, H: Hook, O: Sink>(
 fn end_kernel<O: Sink>(out: &mut O, drive: Drive, answer: Result<(), PartitionFault>) -> Status
     ensures ends { EndsKernel drive answer (O.state out.old) (O.state out.new) result }
     ensures not_usage { result ≡ Status.Usage → ⊥ }
+    ensures not_memory { result ≡ Status.NoMemory → ⊥ }
 {
     match answer {
         Ok(()) => Status::Done,

@@ -20,6 +20,6 @@ mod switch_words;
 
 pub use answer::{Answer, CgptRefusal, Status};
 pub use command::{Command, command_of};
-pub use laws::lines_tell_answers_apart;
+pub use laws::{exit_status_tells, lines_tell_answers_apart};
 pub use printing::print;
 pub use running::run;

@@ -51,6 +51,7 @@ fn work_cgpt<F: Flash, T: Tpm, D: Disk, E: Disk, H: Hook, O: Sink>(
 fn end_cgpt<O: Sink>(out: &mut O, drive: Drive, answer: Result<(), CgptFault>) -> Status
     ensures ends { EndsCgpt drive answer (O.state out.old) (O.state out.new) result }
     ensures not_usage { result ≡ Status.Usage → ⊥ }
+    ensures not_memory { result ≡ Status.NoMemory → ⊥ }
 {
     match answer {
         Ok(()) => Status::Done,

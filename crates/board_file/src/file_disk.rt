@@ -1,11 +1,11 @@
 // A disk over a file, or any other stream with places. It tells no content: what a file keeps is not claimed.
-ghost use Rattle.std.specs.Prelude.{◌≡◌, ◌≤◌, IfOk};
+ghost use Rattle.std.specs.Prelude.{◌≡◌, ◌≤◌, IfOk, IfSome};
 
+use crate::folder::Folder;
 use crate::open_fault::{BoardFile, OpenFault};
-use crate::place::put_in_place;
-use crate::stream::{read_at, write_at};
+use crate::stream::Places;
 use board_core::{Disk, Failed, raise};
-use std::fs::{File, Files, OpenFile, OpenOptions};
+use std::fs::{Files, OpenFile, OpenOptions};
 use std::io;
 use std::io::{Read, Seek, SeekFrom, Write};
 
@@ -15,7 +15,7 @@ const NEW_DISK_FILE: &str = "disk.img.new";
 /// sector are not touched. Each failure of the stream is counted.
 #[derive(Drop)]
 pub struct FileDisk<S> {
-    stream: Option<S>,
+    stream: Option<Places<S>>,
     sectors: u64,
     pending: u32,
     faults: u64,
@@ -27,6 +27,14 @@ pub struct FileDisk<S> {
 impl<S> FileDisk<S> {
     /// A disk of the whole sectors of a stream of so many bytes. No failure is counted yet, and nothing is pending.
     pub fn new(stream: S, size: u64) -> FileDisk<S>
+        ensures pending { result.pending ≡ 0 }
+        ensures faults { result.faults ≡ 0 }
+        ensures failed_changes { result.failed_changes ≡ 0 }
+    {
+        FileDisk::over(Places::new(stream, u64::MAX), size)
+    }
+
+    fn over(stream: Places<S>, size: u64) -> FileDisk<S>
         ensures pending { result.pending ≡ 0 }
         ensures faults { result.faults ≡ 0 }
         ensures failed_changes { result.failed_changes ≡ 0 }
@@ -60,82 +68,117 @@ impl<S> FileDisk<S> {
 /// The internal disk of the current folder, with nothing pending and no failure counted yet. A missing file is made of so
 /// many sectors of zeros, which take no room on most file systems until they are written.
 ///
-/// `OpenFault::CannotOpen`: it can be neither opened nor made.
-pub fn open_disk<R: Files>(files: &R, sectors: u32) -> Result<FileDisk<R::File>, OpenFault>
+/// `OpenFault::CannotOpen`: it is no file or a link to nowhere, or can be neither opened nor made.
+pub fn open_disk<R: Files>(folder: &Folder<R>, sectors: u32) -> Result<FileDisk<R::File>, OpenFault>
     ensures settled { IfOk result (λ disk. disk.pending ≡ 0) }
     ensures counts { IfOk result (λ disk. (disk.faults ≡ 0) × (disk.failed_changes ≡ 0)) }
 {
-    match open_or_make(files, sectors) {
+    match open_or_make(folder, sectors) {
         Ok(disk) => Ok(disk),
         Err(_) => Err(OpenFault::CannotOpen(BoardFile::Disk)),
     }
 }
 
 /// The stick of the current folder, with nothing pending and no failure counted yet. A missing file is a stick of no
-/// sectors.
+/// sectors. One that may be read alone is there, and each write to it fails.
 ///
-/// `OpenFault::CannotOpen`: it is there and cannot be opened.
-pub fn open_stick<R: Files>(files: &R) -> Result<FileDisk<R::File>, OpenFault>
+/// `OpenFault::CannotOpen`: it is no file or a link to nowhere, or cannot be read.
+pub fn open_stick<R: Files>(folder: &Folder<R>) -> Result<FileDisk<R::File>, OpenFault>
     ensures settled { IfOk result (λ disk. disk.pending ≡ 0) }
     ensures counts { IfOk result (λ disk. (disk.faults ≡ 0) × (disk.failed_changes ≡ 0)) }
 {
-    match open_file(files, BoardFile::Stick.name()) {
-        Ok(stick) => Ok(stick),
-        Err(e) if e.kind() == io::ErrorKind::NotFound => Ok(FileDisk::absent()),
+    match open_or_read(folder) {
+        Ok(Some(stick)) => Ok(stick),
+        Ok(None) => Ok(FileDisk::absent()),
         Err(_) => Err(OpenFault::CannotOpen(BoardFile::Stick)),
     }
 }
 
-fn open_file<R: Files>(files: &R, name: &str) -> io::Result<FileDisk<R::File>>
-    ensures settled { IfOk result (λ disk. disk.pending ≡ 0) }
-    ensures counts { IfOk result (λ disk. (disk.faults ≡ 0) × (disk.failed_changes ≡ 0)) }
+fn open_file<R: Files>(
+    folder: &Folder<R>,
+    writes: bool,
+    name: &str,
+) -> io::Result<Option<FileDisk<R::File>>>
+    ensures settled { IfOk result (λ opened. IfSome opened (λ disk. disk.pending ≡ 0)) }
+    ensures counts { IfOk result (λ opened. IfSome opened (λ disk. (disk.faults ≡ 0) × (disk.failed_changes ≡ 0))) }
 {
     let mut options = OpenOptions::new();
-    options.read(true).write(true);
-    let mut file = options.open(files, name)?;
+    options.read(true).write(writes);
+    let Some(mut file) = folder.open(&options, name)? else {
+        return Ok(None);
+    };
     let size = file.seek(SeekFrom::End(0))?;
-    Ok(FileDisk::new(file, size))
+    Ok(Some(FileDisk::over(Places::new(file, folder.most()), size)))
 }
 
-fn open_or_make<R: Files>(files: &R, sectors: u32) -> io::Result<FileDisk<R::File>>
+fn open_or_make<R: Files>(folder: &Folder<R>, sectors: u32) -> io::Result<FileDisk<R::File>>
     ensures settled { IfOk result (λ disk. disk.pending ≡ 0) }
     ensures counts { IfOk result (λ disk. (disk.faults ≡ 0) × (disk.failed_changes ≡ 0)) }
 {
-    match open_file(files, BoardFile::Disk.name()) {
-        Err(e) if e.kind() == io::ErrorKind::NotFound => {
-            let file = File::create(files, NEW_DISK_FILE)?;
-            file.set_len(sectors as u64 * 512)?;
-            put_in_place(files, file, NEW_DISK_FILE, BoardFile::Disk.name())?;
-            open_file(files, BoardFile::Disk.name())
-        }
+    if let Some(disk) = open_file(folder, true, BoardFile::Disk.name())? {
+        return Ok(disk);
+    }
+    make_zeros(folder, sectors)?;
+    match open_file(folder, true, BoardFile::Disk.name())? {
+        Some(disk) => Ok(disk),
+        None => Err(io::Error::from(io::ErrorKind::NotFound)),
+    }
+}
+
+fn make_zeros<R: Files>(folder: &Folder<R>, sectors: u32) -> io::Result<()> {
+    let size = sectors as u64 * 512;
+    if size > folder.most() {
+        return Err(io::Error::from(io::ErrorKind::InvalidInput));
+    }
+    let file = folder.create(NEW_DISK_FILE)?;
+    file.set_len(size)?;
+    folder.put_in_place(file, NEW_DISK_FILE, BoardFile::Disk.name())
+}
+
+// The stick for reading and writing, or for reading alone where it may not be written.
+fn open_or_read<R: Files>(folder: &Folder<R>) -> io::Result<Option<FileDisk<R::File>>>
+    ensures settled { IfOk result (λ opened. IfSome opened (λ disk. disk.pending ≡ 0)) }
+    ensures counts { IfOk result (λ opened. IfSome opened (λ disk. (disk.faults ≡ 0) × (disk.failed_changes ≡ 0))) }
+{
+    match open_file(folder, true, BoardFile::Stick.name()) {
+        Err(e) if is_protected(e.kind()) => open_file(folder, false, BoardFile::Stick.name()),
         opened => opened,
     }
 }
 
+// Whether a file may not be written.
+fn is_protected(kind: io::ErrorKind) -> bool {
+    kind == io::ErrorKind::PermissionDenied || kind == io::ErrorKind::ReadOnlyFilesystem
+}
+
 // Reads from a place of a stream, in bytes. Where there is none, nothing is asked of it.
-fn read_from<S: Read + Seek>(
-    stream: &mut Option<S>,
+fn read_from<S: Read + Write + Seek + OpenFile>(
+    stream: &mut Option<Places<S>>,
     at: u64,
     buf: &mut [u8],
 ) -> Result<(), Failed> {
     match stream {
-        Some(stream) => read_at(stream, at, buf),
+        Some(stream) => stream.read_at(at, buf),
         None => Ok(()),
     }
 }
 
 // Writes from a place of a stream, in bytes. Where there is none, nothing is asked of it.
-fn write_to<S: Write + Seek>(stream: &mut Option<S>, at: u64, bytes: &[u8]) -> Result<(), Failed> {
+fn write_to<S: Read + Write + Seek + OpenFile>(
+    stream: &mut Option<Places<S>>,
+    at: u64,
+    bytes: &[u8],
+) -> Result<(), Failed> {
     match stream {
-        Some(stream) => write_at(stream, at, bytes),
+        Some(stream) => stream.write_at(at, bytes),
         None => Ok(()),
     }
 }
 
 // Makes the bytes of a stream last.
-fn sync<S: OpenFile>(stream: &Option<S>) -> Result<(), Failed> {
+fn sync<S: Read + Write + Seek + OpenFile>(stream: &Option<Places<S>>) -> Result<(), Failed> {
     match stream {
-        Some(stream) => stream.sync_data().map_err(|_| Failed),
+        Some(stream) => stream.sync(),
         None => Ok(()),
     }
 }

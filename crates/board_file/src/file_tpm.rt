@@ -1,11 +1,10 @@
 // A TPM over two files of the current folder. It tells no content: what a file keeps is not claimed.
 ghost use Rattle.std.specs.Prelude.{◌≡◌, ◌≤◌, false, IfOk};
 
+use crate::folder::Folder;
 use crate::open_fault::{BoardFile, OpenFault};
-use crate::place::replace_file;
 use board_core::{Failed, Space, Tpm, raise};
-use std::fs::{File, Files};
-use std::io;
+use std::fs::{Files, OpenOptions};
 use std::io::Read;
 
 /// The greatest number of bytes of a space.
@@ -18,8 +17,8 @@ const NEW_KERNEL_FILE: &str = "tpm_kernel.bin.new";
 /// A TPM whose spaces are files: a missing file is an empty space. Both begin unlocked. A write makes a new file and
 /// renames it, so that a stop leaves the old bytes or the new ones. Each failure of the file system is counted.
 #[derive(Drop)]
-pub struct FileTpm<'a, R> {
-    files: &'a R,
+pub struct FileTpm<'a, R: Files> {
+    folder: &'a Folder<'a, R>,
     is_firmware_locked: bool,
     is_kernel_locked: bool,
     faults: u64,
@@ -30,19 +29,20 @@ impl<'a, R: Files> FileTpm<'a, R> {
     /// The TPM of the current folder, with both spaces unlocked. No failure is counted yet.
     ///
     /// `OpenFault::CannotOpen`: the first of the two files, that of the firmware space before that of the kernel space,
-    /// which cannot be read or has over 64 bytes.
-    pub fn open(files: &'a R) -> Result<FileTpm<'a, R>, OpenFault>
+    /// which is a link or no file, cannot be read, or has over 64 bytes.
+    pub fn open(folder: &'a Folder<'a, R>) -> Result<FileTpm<'a, R>, OpenFault>
         ensures counts { IfOk result (λ tpm. (tpm.faults ≡ 0) × (tpm.failed_changes ≡ 0)) }
         ensures unlocked { IfOk result (λ tpm. (tpm.is_firmware_locked ≡ false) × (tpm.is_kernel_locked ≡ false)) }
     {
         let mut buf = [0; SPACE_SIZE];
         for space in [Space::Firmware, Space::Kernel] {
-            if read_file(files, file_of(space).name(), &mut buf).is_err() {
-                return Err(OpenFault::CannotOpen(file_of(space)));
+            let file = file_of(space);
+            if folder.is_link(file.name()) || read_file(folder, file.name(), &mut buf).is_err() {
+                return Err(OpenFault::CannotOpen(file));
             }
         }
         Ok(FileTpm {
-            files,
+            folder,
             is_firmware_locked: false,
             is_kernel_locked: false,
             faults: 0,
@@ -66,12 +66,12 @@ fn new_file_of(space: Space) -> &'static str {
 }
 
 // Reads a whole file, and answers how many bytes it has. One of over 64 is refused.
-fn read_file<R: Files>(files: &R, name: &str, buf: &mut [u8; 64]) -> Result<usize, Failed>
+fn read_file<R: Files>(folder: &Folder<R>, name: &str, buf: &mut [u8; 64]) -> Result<usize, Failed>
     ensures within { IfOk result (λ count. count ≤ 64) }
 {
-    let mut file = match File::open(files, name) {
-        Ok(file) => file,
-        Err(e) if e.kind() == io::ErrorKind::NotFound => return Ok(0),
+    let mut file = match folder.open(OpenOptions::new().read(true), name) {
+        Ok(Some(file)) => file,
+        Ok(None) => return Ok(0),
         Err(_) => return Err(Failed),
     };
     let mut count = 0;
@@ -88,13 +88,6 @@ fn read_file<R: Files>(files: &R, name: &str, buf: &mut [u8; 64]) -> Result<usiz
         Ok(0) => Ok(count),
         _ => Err(Failed),
     }
-}
-
-fn write_file<R: Files>(files: &R, space: Space, bytes: &[u8]) -> Result<(), Failed> {
-    if replace_file(files, file_of(space).name(), new_file_of(space), bytes).is_err() {
-        return Err(Failed);
-    }
-    Ok(())
 }
 
 impl<R: Files> Tpm for FileTpm<'_, R> {
@@ -116,7 +109,7 @@ impl<R: Files> Tpm for FileTpm<'_, R> {
     }
 
     fn read(&mut self, space: Space, buf: &mut [u8; 64]) -> Result<usize, Failed> {
-        let Ok(count) = read_file(self.files, file_of(space).name(), buf) else {
+        let Ok(count) = read_file(self.folder, file_of(space).name(), buf) else {
             self.faults = raise(self.faults);
             return Err(Failed);
         };
@@ -124,7 +117,8 @@ impl<R: Files> Tpm for FileTpm<'_, R> {
     }
 
     fn write(&mut self, space: Space, bytes: &[u8]) -> Result<(), Failed> {
-        if write_file(self.files, space, bytes).is_err() {
+        let (name, new_name) = (file_of(space).name(), new_file_of(space));
+        if self.folder.replace(name, new_name, bytes).is_err() {
             self.faults = raise(self.faults);
             self.failed_changes = raise(self.failed_changes);
             return Err(Failed);

@@ -1,6 +1,6 @@
 // Streams over files, and devices over files that fail. What a device keeps in its file is tried by the program itself.
 use board_core::{Disk, EnrollFault, Flash, Hook, HookRow, Sink, Source, Space, Tpm};
-use board_file::{FileDisk, FileFlash, FileHook, FileTpm, StdSink, StdSource};
+use board_file::{FileDisk, FileFlash, FileHook, FileTpm, Folder, StdSink, StdSource};
 use std::fs;
 use std::fs::File;
 use std::test::Fail;
@@ -61,21 +61,19 @@ fn a_disk_that_fails(rt: HostRuntime) -> Result<(), Fail> {
 }
 
 #[test]
-fn a_space_that_grows(rt: HostRuntime) -> Result<(), Fail> {
-    // Another program makes the file longer than a space while it is open.
+fn a_folder_that_one_run_has(rt: HostRuntime) -> Result<(), Fail> {
+    let folder = Folder::take(&rt).ok().ok_or("the folder is taken")?;
+    assert!(rt; Folder::take(&rt).is_err());
+    // Another program makes the file of a space longer than a space while it is open.
     fs::write(&rt, "tpm_kernel.bin", &[7; 64][..])?;
-    let mut tpm = FileTpm::open(&rt).ok().ok_or("a TPM is opened")?;
+    let mut tpm = FileTpm::open(&folder).ok().ok_or("a TPM is opened")?;
     let mut buf = [0; 64];
     assert_eq!(rt; tpm.read(Space::Kernel, &mut buf), Ok(64));
     fs::write(&rt, "tpm_kernel.bin", &[7; 65][..])?;
     assert!(rt; tpm.read(Space::Kernel, &mut buf).is_err());
     fs::remove_file(&rt, "tpm_kernel.bin")?;
-    Ok(())
-}
-
-#[test]
-fn a_row_that_no_file_has(rt: HostRuntime) -> Result<(), Fail> {
-    let mut hook = FileHook::open(&rt).ok().ok_or("a hook is opened")?;
+    // A row that no file can have.
+    let mut hook = FileHook::open(&folder).ok().ok_or("a hook is opened")?;
     for (algorithm, answer) in [(18, Err(EnrollFault::Failed)), (17, Ok(()))] {
         let row = HookRow {
             algorithm,

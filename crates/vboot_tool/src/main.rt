@@ -16,7 +16,7 @@ ghost use Rattle.vboot_tool.specs.Starting.{RunsFrom, StartsBy, EndsBy, LacksWor
 mod opening;
 
 use board_core::{Disk, Flash, Hook, Platform, Sink, Tpm};
-use board_file::{OpenFault, StdSink};
+use board_file::{Folder, Handle, OpenFault, StdSink};
 use command_core::{Answer, Status, command_of, print, run};
 use opening::open_board;
 use std::alloc::{AllocError, Global};
@@ -40,12 +40,13 @@ fn words_after_name(alloc: Global, process: Args) -> Result<Vec<String>, AllocEr
 }
 
 // A standard stream that was closed leaves its number to the next file that is opened, and what is printed would go into an image.
-// So each of the three is taken by a file that takes nothing, where it is free.
+// So each of the three is taken by the folder, which takes nothing, where it is free. Where one stays free, the folder is not had
+// afterwards, and no image is opened.
 fn hold_streams<R: Files>(rt: &R) -> [Option<R::File>; 3] {
     [
-        File::open(rt, "/dev/null").ok(),
-        File::open(rt, "/dev/null").ok(),
-        File::open(rt, "/dev/null").ok(),
+        File::open(rt, ".").ok(),
+        File::open(rt, ".").ok(),
+        File::open(rt, ".").ok(),
     ]
 }
 
@@ -76,18 +77,35 @@ fn run_over<
     }
 }
 
-// Runs these words over the files of the current folder. Words that are refused open none, so they are read before.
+// Runs these words over the files of the current folder. Words that are refused do not take it, so they are read before.
 fn run_here<R: Files + AllocGlobal, O: Sink>(rt: &R, words: &[String], out: &mut O) -> Status
+where
+    R::File: Handle,
     ensures { StartsBy (map string_bytes words.now) (O.state out.old) (O.state out.new) result }
 {
     match command_of(rt.alloc(), words) {
-        Ok(_) => run_over(rt.alloc(), words, open_board(rt), out),
+        Ok(_) => run_in_folder(rt, words, out),
         Err(fault) => print(out, &Answer::of_words(fault)),
+    }
+}
+
+// Runs the words of a command over the current folder, which no other run has meanwhile.
+fn run_in_folder<R: Files + AllocGlobal, O: Sink>(rt: &R, words: &[String], out: &mut O) -> Status
+where
+    R::File: Handle,
+    requires { IsCommand (map string_bytes words.now) }
+    ensures { StartsBy (map string_bytes words.now) (O.state out.old) (O.state out.new) result }
+{
+    match Folder::take(rt) {
+        Ok(folder) => run_over(rt.alloc(), words, open_board(rt.alloc(), &folder), out),
+        Err(fault) => print(out, &Answer::Unopened(fault)),
     }
 }
 
 // Runs the words of a process, of which the first is the program's name, and ends with the status of the command.
 fn run_process<R: Files + AllocGlobal, O: Sink>(rt: &R, process: Args, out: &mut O) -> ExitCode
+where
+    R::File: Handle,
     ensures { EndsBy (map string_bytes (drop 1 (into_iter_items process))) (O.state out.old) (O.state out.new) (exit_status result) }
 {
     let Ok(words) = words_after_name(rt.alloc(), process) else {

@@ -4,8 +4,9 @@ ghost use Rattle.vboot_tool.specs.Opening.{IsSettledBoard};
 
 use board_core::{Fuse, FuseDisk, FuseTpm, Platform};
 use board_file::{
-    FileDisk, FileFlash, FileHook, FileTpm, OpenFault, open_disk, open_flash, open_stick,
+    FileDisk, FileFlash, FileHook, FileTpm, Folder, OpenFault, open_disk, open_flash, open_stick,
 };
+use std::alloc::Global;
 use std::rt::Files;
 
 // A missing flash image is made of so many erased pages.
@@ -27,19 +28,22 @@ pub type FileBoard<'a, R> = Platform<
 /// that of accepted signatures.
 ///
 /// `OpenFault`: that of the first that was not opened.
-pub fn open_board<R: Files + AllocGlobal>(rt: &R) -> Result<FileBoard<'_, R>, OpenFault>
+pub fn open_board<'a, R: Files + AllocGlobal>(
+    alloc: Global,
+    folder: &'a Folder<'a, R>,
+) -> Result<FileBoard<'a, R>, OpenFault>
     ensures { IfOk result (λ board. IsSettledBoard board) }
 {
-    let flash = open_flash(rt, NEW_FLASH_PAGES)?;
-    let tpm = FileTpm::open(rt)?;
-    let disk = open_disk(rt, NEW_DISK_SECTORS)?;
-    let stick = open_stick(rt)?;
-    let hook = FileHook::open(rt)?;
+    let flash = open_flash(folder, NEW_FLASH_PAGES)?;
+    let tpm = FileTpm::open(folder)?;
+    let disk = open_disk(folder, NEW_DISK_SECTORS)?;
+    let stick = open_stick(folder)?;
+    let hook = FileHook::open(folder)?;
     Ok(Platform {
-        flash: Fuse::new(rt.alloc(), flash),
+        flash: Fuse::new(alloc, flash),
         tpm: FuseTpm::new(tpm),
-        disk: FuseDisk::new(rt.alloc(), disk),
-        stick: FuseDisk::new(rt.alloc(), stick),
+        disk: FuseDisk::new(alloc, disk),
+        stick: FuseDisk::new(alloc, stick),
         hook,
         map_at: 0,
     })

@@ -1,6 +1,6 @@
 # What each command prints, its status, and the machine after it.
 import functools
-from boots import *
+from crossing import *
 
 def boot_switches(words): # None where they are no words of a boot
     switches = {}
@@ -35,9 +35,6 @@ def table_text(name, disk):
         lines.append(f'part {i} begin {first} size {last - first + 1} type {kinds.get(kind, kind)} unique {uuid.UUID(bytes_le=e[16:32])} priority '
                      f'{priority(e)} tries {tries(e)} successful {successful(e)} label' + (label and ' ' + label))
     return lines, 0
-
-# ASCII before the first NUL, and `?` for each byte that is not printable.
-def plain_text(bs): return ''.join(chr(x) if 0x20 <= x <= 0x7e else '?' for x in bs.split(b'\0')[0])
 
 # Lines on a keyblock and on the preamble behind it, tested by their bytes alone: up to `last_line` of the table of the preamble.
 def keyblock_and_preamble(name, bs, fault, last_line, fields):
@@ -88,7 +85,9 @@ def run_words(m, words):
     if words == ['futility', 'show', 'flash']: return *flash_text(m.flash), m
     if words[:2] == ['futility', 'show'] and len(words) == 4 and words[2] in ('disk', 'stick') and is_number(words[3]):
         return *partition_text(getattr(m, words[2]), int(words[3])), m
-    if words[0] in ('make', 'futility'): return ['usage'], 1, m
+    if words == ['migrate']: return migrate(m)
+    if words[0] in ('make', 'futility', 'migrate'): return ['usage'], 1, m
+    if words[0] == 'crossystem': return crossystem(m, words[1:])
     if words[:2] == ['cgpt', 'show'] and words[2:] in (['disk'], ['stick']): return *table_text(words[2], getattr(m, words[2])), m
     if words[:2] == ['cgpt', 'repair'] and words[2:] in (['disk'], ['stick']):
         table, _, agree = read_table(getattr(m, words[2]))

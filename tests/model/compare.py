@@ -70,6 +70,31 @@ def laws_of_showing(m, device, words, body): # the same of words that change not
     if len(set(counts.values())) > 1: wrong.append(f'not as many calls with each of the remains: {counts}')
     return wrong, sum(counts.values())
 
+def laws_of_crossing(m, device, words, body):
+    """The same of crossystem and migrate: where the flash or the TPM failed nothing but that is printed, and its change is not made, is made,
+    or is torn in the pages of nvdata; where the sink failed the change is made, and a beginning of the lines is printed."""
+    text, _, after = run_words(m, words)
+    def then(state):
+        text, status, _ = run_words(state, words)
+        return '  then ' + ''.join(line + ', ' for line in text) + f'status {status}'
+    changed_by = {'flash': after.flash != m.flash, 'tpm': after.kernel != m.kernel}
+    wrong, counts = [], {}
+    for first, last, remains, lines in blocks_of(body):
+        breaks = lambda what: wrong.append(f'call {first} {remains}: {what}')
+        if first != counts.get(remains, 0) + 1: breaks('calls are not in turn')
+        counts[remains] = last
+        if f'  status {STATUS[device]}' not in lines: breaks('not the status of its device'); continue
+        at = lines.index(f'  status {STATUS[device]}')
+        told, changes, later = lines[:at], lines[at+1:-1], lines[-1]
+        may_be = [after] if device == 'sink' else [m, after] if changed_by[device] else [m]
+        right = told == ['  ' + line for line in text][:len(told)] if device == 'sink' else told == [f'  fault {device}']
+        if not right: breaks('another text')
+        torn = device == 'flash' and changed_by['flash'] and all(is_among(line, torn_ranges(m, ('nv', read_map(m.flash, map_place(m.flash))[1][0]))) for line in changes)
+        if changes not in [machine_lines(m, state) for state in may_be] and not torn: breaks('other changes')
+        if later not in [then(state) for state in may_be]: breaks('other words afterwards')
+    if len(set(counts.values())) > 1: wrong.append(f'not as many calls with each of the remains: {counts}')
+    return wrong, sum(counts.values())
+
 def check(lines):
     bench, wrong, same, calls = Bench(), [], 0, 0
     parts = []
@@ -83,8 +108,9 @@ def check(lines):
         expected = bench.out[printed+1:]
         words = line.split()
         boots = words[2:3] == ['boot'] and boot_switches(words[3:]) is not None
-        if words[0] == 'each' and words[1] in STATUS and (boots or words[2] == 'futility'):
-            broken, many = (laws if boots else laws_of_showing)(before, words[1], words[2:], body)
+        crosses = words[2:3] == ['crossystem'] or words[2:] == ['migrate']
+        if words[0] == 'each' and words[1] in STATUS and (boots or crosses or words[2] == 'futility'):
+            broken, many = (laws if boots else laws_of_crossing if crosses else laws_of_showing)(before, words[1], words[2:], body)
             calls += many
             wrong += [f'part {number}, {line}: {what}' for what in broken]
         elif expected not in (['  ?'], body): wrong.append(f'part {number}, {line[:80]}: not\n' + '\n'.join(body) + '\nbut\n' + '\n'.join(expected))

@@ -37,3 +37,6 @@ def read_gbb(bs):
     for place, size in ranges[1:]:
         if size < 32 or not inside(size, 0, 32, u32(bs, place), u32(bs, place + 8)): return 4
     return u32(bs, 12), Key(bs, ranges[1][0]), Key(bs, ranges[2][0])
+
+# ASCII before the first NUL, and `?` for each byte that is not printable.
+def plain_text(bs): return ''.join(chr(x) if 0x20 <= x <= 0x7e else '?' for x in bs.split(b'\0')[0])

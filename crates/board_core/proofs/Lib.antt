@@ -9,3 +9,4 @@ pub mod DiskTorn
 pub mod FuseDiskLemmas
 pub mod FuseLemmas
 pub mod Rows
+pub mod TextsPut

@@ -39,3 +39,16 @@ pub record Puts {E : Type 0} (bytes : List ℕ) (old new : StreamState) (result 
   pub ok : IsTrue old.told → OnOk result (new.bytes ≡ old.bytes ++ bytes)
   -- a failed call appends a front of them
   pub err : IsTrue old.told → OnErr result ((count : ℕ) × (count ≤ length bytes) × (new.bytes ≡ old.bytes ++ take count bytes))
+
+-- ---- texts
+
+-- a beginning of a text was put
+abbrev pub IsFrontPut : List ℕ → List ℕ → List ℕ → Type 0
+IsFrontPut text old new = (front : List ℕ) × (rest : List ℕ) × (text ≡ front ++ rest) × (new ≡ old ++ front)
+
+-- A text is put, in one call or in several.
+pub record PutsText {E : Type 0} (text : List ℕ) (old new : StreamState) (result : Result Unit E) : Type 0 where
+  pub faults : CountsFaults old.faults new.faults (is_err result)
+  pub told : new.told ≡ old.told
+  pub ok : IsTrue old.told → OnOk result (new.bytes ≡ old.bytes ++ text)
+  pub err : IsTrue old.told → OnErr result (IsFrontPut text old.bytes new.bytes)

@@ -20,28 +20,16 @@ use Rattle.rom_core.specs.Map.{MapQuestion, standing_map, areas_in, map_lines}
 use Rattle.rom_core.specs.MapFits.{FitsFlash}
 use Rattle.rom_core.specs.Gbb.{gbb_lines, gbb_in, area_bytes, ReadsGbb}
 use Rattle.rom_core.specs.Reading.{map_question, ReadsMap}
-use Rattle.rom_core.specs.Decoded.{map_from, flash_map, gbb_of}
+use Rattle.rom_core.specs.Decoded.{flash_map, gbb_of}
+use Rattle.rom_core.proofs.Decodings.{gbb_is, map_is}
 use Rattle.nvstore_core.specs.declared.state.NvState.{NvState}
 use Rattle.nvstore_core.specs.Pages.{state_in, IsStateOf}
 use Rattle.nvstore_core.specs.Saving.{Loads}
+use Rattle.space_core.specs.Reading.{ReadsSpaces}
 use Rattle.boot_core.specs.declared.found.Found.{Found}
 use Rattle.boot_core.specs.Facts.{found_in, found_by, found_of}
-use Rattle.boot_core.specs.Steps.{Looks, SameDrives, IsAreaIn, IsFound, HasMap, IsBehindMap, ReadsSpaces, ReadsFound, ReadsBoard}
+use Rattle.boot_core.specs.Steps.{Looks, SameDrives, IsAreaIn, IsFound, HasMap, IsBehindMap, ReadsFound, ReadsBoard}
 use Rattle.boot_core.proofs.Looking.{SameSpaces, flash_failed, tpm_failed, looks_flash, looks_flash_failed, looks_tpm, looks_tpm_failed, looks_then, looks_as, looks_err}
-
--- ---- tables as one answer
-
-pub gbb_is : (bytes : List ℕ) (answer : Result Gbb GbbFault) → IfErr answer (λ (fault : GbbFault). first_fault gbb_lines bytes ≡ Some fault) → OnOk answer (first_fault gbb_lines bytes ≡ None)
-    → IfOk answer (λ (gbb : Gbb). gbb ≡ gbb_in bytes) → answer ≡ gbb_of bytes
-unfolding gbb_of
-gbb_is bytes (Ok gbb) fault none is = ap (λ (g : Gbb). let r : Result Gbb GbbFault = Ok g in r) is ∙ sym (ap (λ (o : Option GbbFault). option_map_or Err o (Ok (gbb_in bytes))) none)
-gbb_is bytes (Err f) fault none is = sym (ap (λ (o : Option GbbFault). option_map_or Err o (Ok (gbb_in bytes))) fault)
-
-pub map_is : (asked : MapQuestion) (answer : Result Map MapFault) → IfErr answer (λ (fault : MapFault). first_fault map_lines asked ≡ Some fault) → OnOk answer (first_fault map_lines asked ≡ None)
-    → IfOk answer (λ (areas : Map). areas_in (standing_map asked).rows ≡ Some areas) → flash_map asked ≡ answer
-unfolding flash_map
-map_is asked (Ok areas) fault none is = ap (λ (o : Option MapFault). map_from o (areas_in (standing_map asked).rows)) none ∙ ap (map_from None) is
-map_is asked (Err f) fault none is = ap (λ (o : Option MapFault). map_from o (areas_in (standing_map asked).rows)) fault
 
 -- ---- what was found
 

@@ -18,7 +18,8 @@ use Rattle.walk_core.specs.declared.drive.Seen.{Seen}
 use Rattle.walk_core.specs.declared.drive.Seen.TheVariants as seen
 use Rattle.walk_core.specs.Seen.{kernel_of}
 use Rattle.boot_core.specs.declared.found.Found.{Found}
-use Rattle.boot_core.specs.Spaces.{booted_record, is_standing}
+use Rattle.nvstore_core.specs.Pages.{is_standing}
+use Rattle.boot_core.specs.Spaces.{booted_record}
 use Rattle.boot_core.specs.Plan.{IsOfOneForm, rebooted_record, stick_plan_of, failed_plan_of, disk_plan_of, drive_plan_of, missing_subcode, reason_no_table, reason_no_kernel}
 
 length-with_values : (value : NvField → ℕ) (fields : List NvField) (r : List ℕ) → length (with_values value fields r) ≡ length r

@@ -29,7 +29,8 @@ use Rattle.boot_core.specs.declared.outcome.Outcome.{Outcome}
 use Rattle.boot_core.specs.declared.outcome.Outcome.TheVariants as outcome
 use Rattle.boot_core.specs.declared.plan.Plan.{Plan}
 use Rattle.boot_core.specs.Changes.{Change, Firmware, Record, Kernel as KernelSpace, listed, tabled}
-use Rattle.boot_core.specs.Spaces.{booted_record, screened_record, enabled_record, disables_dev, is_trying, record_change, second_change}
+use Rattle.nvstore_core.specs.Pages.{record_change}
+use Rattle.boot_core.specs.Spaces.{booted_record, screened_record, enabled_record, disables_dev, is_trying, second_change}
 use Rattle.boot_core.specs.Spaces.{flags_change, version_change, enabling_change, firmware_stored, firmware_stored_after}
 use Rattle.boot_core.specs.Spaces.{kernel_change, kernel_stored, kernel_stored_after, firmware_kept, kernel_kept}
 use Rattle.boot_core.specs.Facts.{facts_of}

@@ -15,7 +15,6 @@ use Rattle.fwsel_core.specs.Mode.{space_developer_mode}
 use Rattle.fwsel_core.specs.declared.selection.Selection.{Selection}
 use Rattle.fwsel_core.specs.Slot.{slot_number}
 use Rattle.fwsel_core.specs.Selection.{trying, selected_record}
-use Rattle.nvstore_core.specs.declared.state.NvState.{NvState}
 
 -- ---- the records that a boot leaves
 
@@ -38,13 +37,6 @@ disables_dev r = not (field_of r field.DisableDev == 0)
 -- the slot is on trial
 abbrev pub is_trying : List ℕ → Bool
 is_trying r = field_of r field.Result == trying
-
--- a good record stands, and it is this one
-abbrev pub is_standing : NvState → List ℕ → Bool
-is_standing state r = state.stands && bytes_eq state.nv r
-
-abbrev pub record_change : NvState → List ℕ → Option (List ℕ)
-record_change state r = if is_standing state r then None else Some r
 
 -- a second record after a first one, which stands by then
 abbrev pub second_change : (first second : List ℕ) → Option (List ℕ)

@@ -90,16 +90,6 @@ pub record IsAreaIn (size area : ℕ) : Type 0 where
   pub multiple : area % 4096 ≡ 0
   pub inside : area + 8192 ≤ size
 
--- Both spaces are read.
-pub record ReadsSpaces {E : Type 0} (old new : TpmState)
-    (result : Result (Result (List ℕ) SpaceFault × Result (List ℕ) SpaceFault) E) : Type 0 where
-  pub counters : Observed old.counters new.counters (is_err result)
-  pub told : new.told ≡ old.told
-  pub spaces : new.spaces ≡ old.spaces
-  pub locks : new.locks ≡ old.locks
-  pub firmware : IsTrue old.told → IfOk result (λ found. found.0 ≡ good_bytes (firmware_fault old.spaces.firmware) old.spaces.firmware)
-  pub kernel : IsTrue old.told → IfOk result (λ found. found.1 ≡ good_bytes (kernel_fault old.spaces.kernel) old.spaces.kernel)
-
 -- What was found is known, as far as the devices tell what they hold.
 pub record IsFound (w : World) (found : Found) : Type 0 where
   pub fits : FitsFlash w.flash.medium.size found.map

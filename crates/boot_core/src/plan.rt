@@ -11,8 +11,8 @@ use crate::found::Found;
 use crate::outcome::{Hand, Outcome};
 use crate::spaces::{
     booted, disables_dev, enabled, enabling_change, firmware_stored, firmware_stored_after,
-    flags_change, is_trying, kernel_change, kernel_stored, kernel_stored_after, record_change,
-    screened, second_change, version_change,
+    flags_change, is_trying, kernel_change, kernel_stored, kernel_stored_after, screened,
+    second_change, version_change,
 };
 use crate::switches::Switches;
 use board_core::Drive;
@@ -119,7 +119,7 @@ pub fn screen_plan(found: &Found, reason: u8, subcode: u8) -> Plan
     let next = screened(&found.state.nv);
     record_plan(
         Outcome::Screen { reason, subcode },
-        record_change(&found.state, &next),
+        found.state.change_to(&next),
     )
 }
 
@@ -141,7 +141,7 @@ pub fn reboot_plan(found: &Found, developer: bool, selection: Selection, fault: 
             requested,
         },
         firmware: flags_change(&found.firmware, developer, disable_dev),
-        nv: record_change(&found.state, &next),
+        nv: found.state.change_to(&next),
         table: false,
         kernel: None,
         last: None,
@@ -188,7 +188,7 @@ fn good_plan(found: &Found, slot: &GoodSlot, later: Plan) -> Plan
             slot.selection,
             slot.ok.version,
         ),
-        nv: record_change(&found.state, &booted(&found.state.nv)),
+        nv: found.state.change_to(&booted(&found.state.nv)),
         ..later
     }
 }
@@ -332,7 +332,7 @@ pub fn enabling_plan(found: &Found) -> Plan
     Plan {
         outcome: Outcome::DevEnabled,
         firmware: enabling_change(&found.firmware),
-        nv: record_change(&found.state, &enabled(&found.state.nv)),
+        nv: found.state.change_to(&enabled(&found.state.nv)),
         table: false,
         kernel: None,
         last: None,
@@ -352,7 +352,7 @@ pub fn recovery_plan(found: &Found, seen: &Seen) -> Plan
         },
     };
     let next = screened(&found.state.nv);
-    record_plan(outcome, record_change(&found.state, &next))
+    record_plan(outcome, found.state.change_to(&next))
 }
 
 // What is handed over in a recovery: a kernel of the stick, and no firmware.

@@ -1,15 +1,14 @@
 // Reading what a board holds, before anything of it is changed.
 ghost use Rattle.std.specs.Prelude.{◌≡◌, IsTrue, OnOk, IfOk, IfErr};
 ghost use Rattle.rom_core.specs.MapFits.{FitsFlash};
-ghost use Rattle.board_core.specs.Tpm.{TpmState};
 ghost use Rattle.board_core.specs.World.{world};
-ghost use Rattle.boot_core.specs.Steps.{ReadsBoard, ReadsFound, ReadsSpaces};
+ghost use Rattle.boot_core.specs.Steps.{ReadsBoard, ReadsFound};
 
 use crate::found::Found;
-use board_core::{Device, Disk, Failed, Fault, Flash, Hook, Platform, Space, Tpm};
+use board_core::{Device, Disk, Fault, Flash, Hook, Platform, Tpm};
 use nvstore_core::load;
-use record_core::{FwSpace, KernelSpace, SpaceFault};
 use rom_core::{Map, MapFault, read_gbb, read_map};
+use space_core::read_spaces;
 
 /// A fault of a device before any change.
 pub fn fault_of(device: Device) -> Fault
@@ -66,20 +65,4 @@ fn read_found<F: Flash, T: Tpm, D: Disk, E: Disk, H: Hook>(
         firmware,
         kernel,
     })
-}
-
-// Reads both spaces.
-fn read_spaces<T: Tpm>(
-    tpm: &mut T,
-) -> Result<(Result<FwSpace, SpaceFault>, Result<KernelSpace, SpaceFault>), Failed>
-    ensures { ReadsSpaces (T.state tpm.old) (T.state tpm.new) result }
-{
-    let mut firmware = [0; 64];
-    let firmware_len = tpm.read(Space::Firmware, &mut firmware)?;
-    let mut kernel = [0; 64];
-    let kernel_len = tpm.read(Space::Kernel, &mut kernel)?;
-    Ok((
-        FwSpace::from_bytes(&firmware[..firmware_len]),
-        KernelSpace::from_bytes(&kernel[..kernel_len]),
-    ))
 }

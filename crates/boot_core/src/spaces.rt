@@ -6,7 +6,6 @@ ghost use Rattle.boot_core.specs.Spaces as spec;
 ghost use Rattle.boot_core.specs.Spaces.{RaisesVersion, RaisesKernel};
 
 use fwsel_core::{Selection, boot_flags, select};
-use nvstore_core::NvState;
 use record_core::{Ceiling, FwSpace, KernelSpace, Nv, NvField, SpaceFault};
 
 const SUCCESS: u8 = 2;
@@ -58,13 +57,6 @@ pub fn is_trying(nv: &Nv) -> bool
     ensures { result ≡ spec.is_trying nv.now }
 {
     nv.get(NvField::Result) == TRYING
-}
-
-/// The record, where it does not stand already.
-pub fn record_change(state: &NvState, nv: &Nv) -> Option<Nv>
-    ensures { result ≡ spec.record_change state.now nv.now }
-{
-    if state.holds(nv) { None } else { Some(*nv) }
 }
 
 /// The second record, where it is another one than the first, which stands by then.

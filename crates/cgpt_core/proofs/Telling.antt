@@ -4,7 +4,7 @@ use Rattle.std.specs.Prelude.{IsTrue, take, drop}
 use Rattle.std.proofs.lemmas.List.{take-append-drop}
 use Rattle.board_core.specs.declared.device.Failed.{Failed}
 use Rattle.board_core.specs.Disk.{DiskState}
-use Rattle.board_core.specs.Streams.{StreamState, Puts}
+use Rattle.board_core.specs.Streams.{StreamState, Puts, PutsText}
 use Rattle.gpt_core.specs.Room.{RoomView}
 use Rattle.gpt_core.specs.Tables.{IsGood}
 use Rattle.board_core.specs.declared.device.Drive.{Drive}
@@ -12,7 +12,7 @@ use Rattle.cgpt_core.specs.declared.fault.CgptFault.{CgptFault}
 use Rattle.cgpt_core.specs.declared.fault.CgptFault.TheVariants as fault
 use Rattle.cgpt_core.specs.declared.opening.Opened.{Opened}
 use Rattle.cgpt_core.specs.Text.{table_text}
-use Rattle.cgpt_core.specs.Tables.{IsShown, IsPut, Opens, PutsText, Shows, Tells}
+use Rattle.cgpt_core.specs.Tables.{IsShown, IsPut, Opens, Shows, Tells}
 
 -- a word that was put
 pub word_put : (word : List ℕ) (old new : StreamState) → Puts {E = Failed} word old new (Ok tt) → Tells (λ (text : List ℕ). text ≡ word) true old new (Ok tt)

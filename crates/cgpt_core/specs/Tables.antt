@@ -2,7 +2,7 @@
 use Rattle.std.specs.Prelude.{◌≡◌, ◌↔◌, ◌⊎◌, ℕ, ◌≤◌, Bool, true, false, IsTrue, List, ◌++◌, codes, All, Option, Some, None, Result, Ok, Err, is_err, OnOk, OnErr, IfOk, IfSome, IfNone}
 use Rattle.board_core.specs.Counters.{CountsFaults, Observed, MadeChanges, Rose}
 use Rattle.board_core.specs.Disk.{DiskMedium, DiskState, Flushed}
-use Rattle.board_core.specs.Streams.{StreamState}
+use Rattle.board_core.specs.Streams.{StreamState, IsFrontPut}
 use Rattle.board_core.specs.Torn.{Grown, added}
 use Rattle.gpt_core.specs.declared.side.Side.TheVariants as side
 use Rattle.gpt_core.specs.declared.found.Found.{Found}
@@ -18,7 +18,8 @@ use Rattle.board_core.specs.declared.device.Drive.{Drive}
 use Rattle.cgpt_core.specs.declared.fault.CgptFault.{CgptFault}
 use Rattle.cgpt_core.specs.declared.fault.CgptFault.TheVariants as fault
 use Rattle.cgpt_core.specs.declared.opening.Opened.{Opened}
-use Rattle.cgpt_core.specs.Text.{line_end, table_text}
+use Rattle.text_core.specs.Shown.{line_end}
+use Rattle.cgpt_core.specs.Text.{table_text}
 
 -- ---- the table of a disk
 
@@ -48,19 +49,6 @@ pub record Opens {E : Type 0} (old new : DiskState) (room : RoomView) (result : 
   pub found : IsTrue old.medium.told → IfOk result
       (λ found. IfSome found (λ opened. IsOpened opened old.medium.sectors old.medium.bytes room.table))
   pub none : IsTrue old.medium.told → IfOk result (λ found. IfNone found (table_in old.medium.sectors old.medium.bytes ≡ None))
-
--- ---- texts
-
--- a beginning of a text was put
-abbrev pub IsFrontPut : List ℕ → List ℕ → List ℕ → Type 0
-IsFrontPut text old new = (front : List ℕ) × (rest : List ℕ) × (text ≡ front ++ rest) × (new ≡ old ++ front)
-
--- A text is put, in one call or in several.
-pub record PutsText {E : Type 0} (text : List ℕ) (old new : StreamState) (result : Result Unit E) : Type 0 where
-  pub faults : CountsFaults old.faults new.faults (is_err result)
-  pub told : new.told ≡ old.told
-  pub ok : IsTrue old.told → OnOk result (new.bytes ≡ old.bytes ++ text)
-  pub err : IsTrue old.told → OnErr result (IsFrontPut text old.bytes new.bytes)
 
 -- ---- answers
 

@@ -3,6 +3,7 @@
 use Rattle.std.specs.Prelude.{ℕ, zero, suc, ◌+◌, ◌-◌, ◌/◌, ◌%◌, ◌^◌, nat_le, ◌&&◌, ◌==◌, Bool, true, false, if◌then◌else◌, List, [], ◌∷◌, ◌++◌, map, codes, decimal}
 use Rattle.std.specs.List.{before_first}
 use Rattle.std.specs.Str.{bytes_eq}
+use Rattle.text_core.specs.Shown.{line_end}
 use Rattle.uuid.specs.Text.{hyphenated_text, lower}
 use Rattle.uuid.specs.Parts.{swap_fields}
 use Rattle.gpt_core.specs.declared.entry.Entry.{Entry}
@@ -12,9 +13,6 @@ use Rattle.gpt_core.specs.Entries.{is_used, entry_in}
 use Rattle.gpt_core.specs.Format.{PartitionTable}
 use Rattle.board_core.specs.declared.device.Drive.{Drive}
 use Rattle.board_core.specs.declared.device.Drive.TheVariants.{Disk, Stick}
-
-abbrev pub line_end : List ℕ
-line_end = 10 ∷ []
 
 -- a text with a space before it, and nothing where it is empty
 abbrev pub spaced : List ℕ → List ℕ

@@ -3,7 +3,7 @@ ghost use Rattle.std.specs.Prelude.{◌≡◌, ◌+◌, ◌<◌, ◌≤◌, ◌^
 ghost use Rattle.gpt_core.specs.Entries.{is_used, entry_in};
 ghost use Rattle.gpt_core.specs.Format.{IsValidTable};
 ghost use Rattle.cgpt_core.specs.Text.{table_text, entry_lines, entry_line};
-ghost use Rattle.cgpt_core.specs.Tables.{PutsText};
+ghost use Rattle.board_core.specs.Streams.{PutsText};
 
 use crate::lines::{text_of_head, text_of_part};
 use crate::opening::Opened;

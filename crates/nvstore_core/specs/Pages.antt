@@ -194,6 +194,16 @@ pub record InRange (state : NvState) : Type 0 where
   pub generation : state.generation ≤ 2
   pub next : state.next ≤ cells_in state.form
 
+-- ---- whether a record is stored
+
+-- a good record stands, and it is this one
+abbrev pub is_standing : NvState → List ℕ → Bool
+is_standing state r = state.stands && bytes_eq state.nv r
+
+-- the record, unless it stands already
+abbrev pub record_change : NvState → List ℕ → Option (List ℕ)
+record_change state r = if is_standing state r then None else Some r
+
 -- ---- how a record is stored
 
 -- whether a record of this form goes into the current page: it counts, has the form, and has an erased cell

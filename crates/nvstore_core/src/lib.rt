@@ -3,12 +3,13 @@
 //!
 //! - `state` is what the store knows of its pages.
 //! - `page` reads one page, and makes the head of one.
-//! - `loading` reads both pages, and `saving` stores a record.
+//! - `loading` reads both pages, `standing` tells whether a record stands, and `saving` stores one.
 #![tactic(auto)]
 
 mod loading;
 mod page;
 mod saving;
+mod standing;
 mod state;
 
 pub use loading::load;

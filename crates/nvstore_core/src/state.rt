@@ -1,6 +1,4 @@
 // What the store knows of its two pages.
-ghost use Rattle.std.specs.Prelude.{◌≡◌, ◌&&◌, bytes_eq};
-
 use record_core::{Nv, NvForm};
 
 /// What the two pages of nvdata were found to hold, or what a save left in them.
@@ -19,13 +17,4 @@ pub struct NvState {
     pub nv: Nv,
     /// Whether a good record stands in the current page.
     pub stands: bool,
-}
-
-impl NvState {
-    /// Whether a good record stands and it is this one.
-    pub fn holds(&self, nv: &Nv) -> bool
-        ensures { result ≡ (self.now.stands && bytes_eq self.now.nv nv.now) }
-    {
-        self.stands && self.nv.as_slice() == nv.as_slice()
-    }
 }

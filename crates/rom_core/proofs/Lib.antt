@@ -8,3 +8,4 @@ pub mod Pages
 pub mod GbbReads
 pub mod GbbTable
 pub mod Checks
+pub mod Decodings

@@ -1,9 +1,9 @@
 -- The text of what a flash holds: a line for the flash, for each of its areas and for its GBB, and two for each slot; and that of
 -- a partition: two lines for its kernel, or one.
 -- The form of the lines is this project's own.
-use Rattle.std.specs.Prelude.{ℕ, nat_le, ◌&&◌, ◌==◌, if◌then◌else◌, List, [], ◌∷◌, ◌++◌, map, codes, decimal, Result, Ok, Err}
-use Rattle.std.specs.List.{before_first}
+use Rattle.std.specs.Prelude.{ℕ, nat_le, ◌&&◌, ◌==◌, if◌then◌else◌, List, [], ◌∷◌, ◌++◌, codes, decimal, Result, Ok, Err}
 use Rattle.text_core.specs.Numbers.{hex_number}
+use Rattle.text_core.specs.Shown.{shown_field, line_end}
 use Rattle.key_core.specs.declared.fault.KeyblockFault.{KeyblockFault}
 use Rattle.key_core.specs.declared.fault.KeyblockFault.TheVariants as keyblock_fault
 use Rattle.preamble_core.specs.declared.fault.FwPreambleFault.{FwPreambleFault}
@@ -74,10 +74,7 @@ kernel_preamble_fault_number kernel_fault.Refused = 9
 kernel_preamble_fault_number kernel_fault.VersionRange = 10
 kernel_preamble_fault_number kernel_fault.Rollback = 11
 
--- ---- the ends of lines
-
-abbrev pub line_end : List ℕ
-line_end = 10 ∷ []
+-- ---- faults
 
 -- where a fault is told in the place of what was looked for
 abbrev pub fault_end : (number : ℕ) → List ℕ
@@ -93,14 +90,6 @@ area_line name area = codes "area " ++ name ++ codes " " ++ decimal area.at ++ c
 
 -- ---- the GBB
 
--- a byte is shown as it is where it is a printable character of ASCII, and else as `?`
-abbrev pub shown_byte : ℕ → ℕ
-shown_byte byte = if nat_le 0x20 byte && nat_le byte 0x7e then byte else 63
-
--- the HWID ends before the first NUL
-abbrev pub shown_hwid : List ℕ → List ℕ
-shown_hwid hwid = map shown_byte (before_first (λ byte. byte == 0) hwid)
-
 -- a text with a space before it, and nothing where it is empty
 abbrev pub spaced : List ℕ → List ℕ
 spaced [] = []
@@ -108,7 +97,7 @@ spaced (byte ∷ bytes) = codes " " ++ (byte ∷ bytes)
 
 abbrev pub gbb_line : Result GbbFacts GbbFault → List ℕ
 gbb_line (Ok gbb) =
-    codes "gbb minor " ++ decimal gbb.minor ++ codes " flags " ++ hex_number 4 gbb.flags ++ codes " hwid" ++ spaced (shown_hwid gbb.hwid)
+    codes "gbb minor " ++ decimal gbb.minor ++ codes " flags " ++ hex_number 4 gbb.flags ++ codes " hwid" ++ spaced (shown_field gbb.hwid)
     ++ line_end
 gbb_line (Err fault) = codes "gbb" ++ fault_end (gbb_fault_number fault)
 

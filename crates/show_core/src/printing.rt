@@ -1,7 +1,8 @@
 // The text of what a flash or a partition holds, one line after the other. A function that appends asks for room for the most that it
 // appends, rounded up in places; all lines together stay under the 2,048 bytes of a text.
-ghost use Rattle.std.specs.Prelude.{◌≡◌, ◌+◌, ◌≤◌, ◌==◌, ◌++◌, length, decimal, position, map};
+ghost use Rattle.std.specs.Prelude.{◌≡◌, ◌+◌, ◌≤◌, ◌==◌, ◌++◌, length, decimal};
 ghost use Rattle.text_core.specs.Numbers.{hex_number};
+ghost use Rattle.text_core.specs.Shown.{shown_field};
 ghost use Rattle.show_core.specs.Text as spec;
 ghost use Rattle.show_core.specs.Text.{facts_text, partition_text};
 
@@ -92,7 +93,7 @@ fn push_gbb(text: &mut Text, gbb: &GbbFacts)
 // The HWID with a space before it, or nothing where it is empty.
 fn push_hwid(text: &mut Text, hwid: &[u8; 256])
     requires { length text.old + 257 ≤ 2048 }
-    ensures text { text.new ≡ text.old ++ spec.spaced (spec.shown_hwid hwid.now) }
+    ensures text { text.new ≡ text.old ++ spec.spaced (shown_field hwid.now) }
     ensures size { length text.new ≤ length text.old + 257 }
 {
     let bytes = before_nul(hwid);
@@ -100,29 +101,7 @@ fn push_hwid(text: &mut Text, hwid: &[u8; 256])
         return;
     }
     text.push(b" ");
-    push_shown(text, bytes);
-}
-
-// Bytes as they are shown.
-fn push_shown(text: &mut Text, bytes: &[u8])
-    requires { length text.old + length bytes.now ≤ 2048 }
-    ensures text { text.new ≡ text.old ++ map spec.shown_byte bytes.now }
-    ensures size { length text.new ≡ length text.old + length bytes.now }
-{
-    for byte in bytes {
-        text.push(&[shown_byte(*byte)]);
-    }
-}
-
-// A byte, or `?` in the place of one that is no printable character.
-fn shown_byte(byte: u8) -> u8
-    ensures { result ≡ spec.shown_byte byte }
-{
-    if (b' '..=b'~').contains(&byte) {
-        byte
-    } else {
-        b'?'
-    }
+    text.push_shown(bytes);
 }
 
 // ---- keyblocks and preambles, of slots and of partitions. `front` is what each line begins with.

@@ -1,6 +1,7 @@
 // A text that is put together without taking memory.
-ghost use Rattle.std.specs.Prelude.{◌≡◌, ◌+◌, ◌≤◌, [], ◌++◌, length, decimal};
+ghost use Rattle.std.specs.Prelude.{◌≡◌, ◌+◌, ◌≤◌, [], ◌++◌, length, decimal, map};
 ghost use Rattle.text_core.specs.Numbers.{hex_number};
+ghost use Rattle.text_core.specs.Shown as spec;
 
 use itoa::Buffer;
 use std::marker::Model;
@@ -86,5 +87,27 @@ impl Text {
         let _ = hex::encode_to_slice(number.to_be_bytes(), &mut digits);
         self.push(b"0x");
         self.push(&digits);
+    }
+
+    /// Appends bytes as they are shown: `?` in the place of each that is no printable character of ASCII.
+    pub fn push_shown(&mut self, bytes: &[u8])
+        requires { length self.old + length bytes.now ≤ 2048 }
+        ensures text { self.new ≡ self.old ++ map spec.shown_byte bytes.now }
+        ensures size { length self.new ≡ length self.old + length bytes.now }
+    {
+        for byte in bytes {
+            self.push(&[shown_byte(*byte)]);
+        }
+    }
+}
+
+// A byte, or `?` in the place of one that is no printable character.
+fn shown_byte(byte: u8) -> u8
+    ensures { result ≡ spec.shown_byte byte }
+{
+    if (b' '..=b'~').contains(&byte) {
+        byte
+    } else {
+        b'?'
     }
 }

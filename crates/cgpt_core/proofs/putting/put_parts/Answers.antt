@@ -2,7 +2,7 @@
 use Rattle.std.proofs.Common.{◌≡◌, sym, subst, rules, Ok, Err}
 use Rattle.board_core.specs.declared.device.Failed.{Failed}
 use Rattle.cgpt_core.specs.Text.{entry_lines}
-use Rattle.cgpt_core.specs.Tables.{PutsText}
+use Rattle.board_core.specs.Streams.{PutsText}
 use Rattle.cgpt_core.proofs.Fronts.{no_entries_put, entry_put, entry_failed}
 use Rattle.cgpt_core.proofs.putting.put_parts.Goals as goal
 

@@ -1,7 +1,7 @@
 use Rattle.std.specs.Prelude.{Ok}
 use Rattle.board_core.specs.declared.device.Failed.{Failed}
 use Rattle.cgpt_core.specs.Text.{entry_lines}
-use Rattle.cgpt_core.specs.Tables.{PutsText}
+use Rattle.board_core.specs.Streams.{PutsText}
 use Rattle.cgpt_core.proofs.putting.put_parts.Given as goal
 
 -- the lines of the entries so far were put

@@ -2,7 +2,7 @@
 use Rattle.std.proofs.Common.{◌≡◌, ◌∙◌, sym, subst, rules, Err}
 use Rattle.board_core.specs.declared.device.Failed.{Failed}
 use Rattle.cgpt_core.specs.Text.{head_lines, entry_lines, table_text}
-use Rattle.cgpt_core.specs.Tables.{PutsText}
+use Rattle.board_core.specs.Streams.{PutsText}
 use Rattle.cgpt_core.proofs.Fronts.{head_put, head_failed}
 use Rattle.cgpt_core.proofs.putting.put_table.Goals as goal
 

@@ -1,0 +1,6 @@
+pub mod ValuesFound
+pub mod WordsWorked
+pub mod Seen
+pub mod LinesPut
+pub mod Crossed
+pub mod Unmigrated

@@ -1,0 +1,9 @@
+pub mod Keys
+pub mod Values
+pub mod Settings
+pub mod Views
+pub mod Words
+pub mod Running
+pub mod Reading
+pub mod Crossing
+pub mod Migrating

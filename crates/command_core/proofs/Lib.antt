@@ -1,5 +1,6 @@
 mod Words
 mod Ending
+mod PlainWords
 pub mod SwitchWords
 mod Telling
 mod Statuses

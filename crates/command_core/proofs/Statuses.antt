@@ -18,17 +18,20 @@ status_by n =
     else if n == 1 then ended.Usage
     else if n == 2 then ended.Reboot
     else if n == 3 then ended.Screen
+    else if n == 4 then ended.Differs
     else if n == 5 then ended.FlashFault
     else if n == 6 then ended.TpmFault
     else if n == 7 then ended.DriveFault
     else if n == 8 then ended.HookFault
     else if n == 9 then ended.SinkFault
     else if n == 11 then ended.BadFlash
+    else if n == 13 then ended.RefusedWord
     else if n == 14 then ended.RefusedCgpt
     else if n == 15 then ended.NoMemory
     else if n == 16 then ended.RefusedMake
     else if n == 17 then ended.CannotOpen
-    else ended.NotBuilt
+    else if n == 19 then ended.NotBuilt
+    else ended.RefusedMigrate
 
 status_back : (a : Status) → status_by (exit_code a) ≡ a
 unfolding status_by
@@ -36,17 +39,20 @@ status_back ended.Done = refl
 status_back ended.Usage = refl
 status_back ended.Reboot = refl
 status_back ended.Screen = refl
+status_back ended.Differs = refl
 status_back ended.FlashFault = refl
 status_back ended.TpmFault = refl
 status_back ended.DriveFault = refl
 status_back ended.HookFault = refl
 status_back ended.SinkFault = refl
 status_back ended.BadFlash = refl
+status_back ended.RefusedWord = refl
 status_back ended.RefusedCgpt = refl
 status_back ended.NoMemory = refl
 status_back ended.RefusedMake = refl
 status_back ended.CannotOpen = refl
 status_back ended.NotBuilt = refl
+status_back ended.RefusedMigrate = refl
 
 pub exit_code_tells : (a b : Status) → exit_code a ≡ exit_code b → a ≡ b
 exit_code_tells a b e = sym (status_back a) ∙ ap status_by e ∙ status_back b

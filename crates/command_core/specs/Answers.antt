@@ -8,6 +8,9 @@ use Rattle.board_file.specs.declared.open_fault.OpenFault.TheVariants.{CannotOpe
 use Rattle.board_file.specs.Files.{file_name}
 use Rattle.cgpt_core.specs.declared.call.WordFault.{WordFault}
 use Rattle.cgpt_core.specs.declared.call.WordFault.TheVariants as fault
+use Rattle.crossystem_core.specs.declared.fault.CrossCode.{CrossCode}
+use Rattle.crossystem_core.specs.declared.fault.CrossCode.TheVariants as code
+use Rattle.record_core.specs.Space.{fault_number}
 use Rattle.rom_core.specs.declared.fault.MapFault.{MapFault}
 use Rattle.rom_core.specs.Faults.{map_fault_number}
 use Rattle.text_core.specs.Numbers.{hex_number}
@@ -62,6 +65,12 @@ refusal_name refusal.BadValue = codes "BadValue"
 refusal_name refusal.NoTable = codes "NoTable"
 refusal_name refusal.NoEntry = codes "NoEntry"
 
+-- why a word of the crossystem tool was refused
+abbrev pub code_name : CrossCode → List ℕ
+code_name code.UnknownKey = codes "UnknownKey"
+code_name code.ReadOnly = codes "ReadOnly"
+code_name code.BadValue = codes "BadValue"
+
 abbrev pub bad_flash_text : MapFault → List ℕ
 bad_flash_text fault = line_of (codes "bad flash " ++ decimal (map_fault_number fault))
 
@@ -110,6 +119,11 @@ text_of (answer.WrongSize device) = line_of (codes "refused make size " ++ devic
 text_of answer.HookFull = line_of (codes "refused make hook full")
 text_of (answer.RefusedCgpt why) = line_of (codes "refused cgpt " ++ refusal_name why)
 text_of answer.CgptNotBuilt = line_of (codes "not built cgpt")
+text_of (answer.RefusedWord word why) = line_of (codes "refused word " ++ decimal word ++ codes " " ++ code_name why)
+text_of (answer.Differs word) = line_of (codes "differs word " ++ decimal word)
+text_of answer.Migrated = line_of (codes "migrated")
+text_of answer.AlreadyMigrated = line_of (codes "already v1")
+text_of (answer.RefusedMigrate bad) = line_of (codes "refused migrate " ++ decimal (fault_number bad))
 text_of answer.OutOfMemory = line_of (codes "out of memory")
 text_of (answer.Unopened (CannotOpen file)) = line_of (codes "cannot open " ++ file_name file)
 text_of (answer.Unopened Memory) = line_of (codes "out of memory")
@@ -143,6 +157,11 @@ status_of (answer.WrongSize device) = status.RefusedMake
 status_of answer.HookFull = status.RefusedMake
 status_of (answer.Unopened (CannotOpen file)) = status.CannotOpen
 status_of answer.CgptNotBuilt = status.NotBuilt
+status_of (answer.RefusedWord word why) = status.RefusedWord
+status_of (answer.Differs word) = status.Differs
+status_of answer.Migrated = status.Done
+status_of answer.AlreadyMigrated = status.Done
+status_of (answer.RefusedMigrate bad) = status.RefusedMigrate
 
 -- the number that the program exits with
 abbrev pub exit_code : Status → ℕ
@@ -150,17 +169,20 @@ exit_code status.Done = 0
 exit_code status.Usage = 1
 exit_code status.Reboot = 2
 exit_code status.Screen = 3
+exit_code status.Differs = 4
 exit_code status.FlashFault = 5
 exit_code status.TpmFault = 6
 exit_code status.DriveFault = 7
 exit_code status.HookFault = 8
 exit_code status.SinkFault = 9
 exit_code status.BadFlash = 11
+exit_code status.RefusedWord = 13
 exit_code status.RefusedCgpt = 14
 exit_code status.NoMemory = 15
 exit_code status.RefusedMake = 16
 exit_code status.CannotOpen = 17
 exit_code status.NotBuilt = 19
+exit_code status.RefusedMigrate = 20
 
 -- ---- words that are refused
 

@@ -9,7 +9,7 @@ use Rattle.board_core.specs.declared.device.Drive.{Drive}
 use Rattle.board_core.specs.declared.device.Drive.TheVariants.{Disk, Stick}
 use Rattle.cgpt_core.specs.Words.{call_of}
 use Rattle.command_core.specs.declared.command.Command.{Command}
-use Rattle.command_core.specs.declared.command.Command.TheVariants.{Boot, ShowFlash, Make, ShowPartition, Cgpt}
+use Rattle.command_core.specs.declared.command.Command.TheVariants.{Boot, ShowFlash, Make, ShowPartition, Cgpt, Crossystem, Migrate}
 
 -- words behind the name of the tool for partition tables
 abbrev pub cgpt_words : List (List ℕ) → List (List ℕ)
@@ -47,6 +47,8 @@ AreWordsOf words (Boot sw) = words ≡ boot_words sw
 AreWordsOf words ShowFlash = words ≡ codes "futility" ∷ codes "show" ∷ codes "flash" ∷ []
 AreWordsOf words (Make number) = words ≡ codes "make" ∷ decimal number ∷ []
 AreWordsOf words (ShowPartition drive index) = words ≡ partition_words drive index
+AreWordsOf words Crossystem = (rest : List (List ℕ)) × (words ≡ codes "crossystem" ∷ rest)
+AreWordsOf words Migrate = words ≡ codes "migrate" ∷ []
 AreWordsOf words (Cgpt call) = (rest : List (List ℕ)) × (words ≡ cgpt_words rest) × (call_of rest ≡ Ok call)
 
 -- the number of a machine and the index of a partition fit a u32

@@ -7,4 +7,6 @@ pub mod Showing
 pub mod Making
 pub mod Partitions
 pub mod KernelShowing
+pub mod Crossing
+pub mod Migrating
 pub mod Run

@@ -1,13 +1,15 @@
 // What a command came to, with its text and its status.
-ghost use Rattle.std.specs.Prelude.{◌≡◌, ◌≤◌, ◌+◌, ◌++◌, length};
-ghost use Rattle.command_core.specs.Answers.{line_of, mode_name, slot_name, drive_name, version_name, firmware_line, kernel_line, stored_line, hand_text, reboot_line, text_of, status_of, device_name, device_status, refusal_name, outcome_text, outcome_status, exit_code, answer_of_words};
+ghost use Rattle.std.specs.Prelude.{◌≡◌, ◌≤◌, ◌+◌, ◌++◌, length, decimal};
+ghost use Rattle.command_core.specs.Answers.{line_of, mode_name, slot_name, drive_name, version_name, firmware_line, kernel_line, stored_line, hand_text, reboot_line, text_of, status_of, device_name, device_status, refusal_name, code_name, outcome_text, outcome_status, exit_code, answer_of_words};
 
 use board_core::{Device, Drive, Fault};
 use board_file::OpenFault;
 use boot_core::{Hand, Outcome};
 use cgpt_core::WordFault;
+use crossystem_core::CrossCode;
 use fwsel_core::Slot;
 use kernel_core::BootMode;
+use record_core::SpaceFault;
 use rom_core::MapFault;
 use text_core::Text;
 
@@ -43,6 +45,24 @@ pub enum Answer {
     RefusedCgpt(CgptRefusal),
     /// A command on a partition table that does not stand yet.
     CgptNotBuilt,
+    /// A word of the crossystem tool was refused.
+    RefusedWord {
+        /// Its number, from 1.
+        word: u64,
+        /// Why.
+        code: CrossCode,
+    },
+    /// A word of the crossystem tool checked a value that is another one.
+    Differs {
+        /// Its number, from 1.
+        word: u64,
+    },
+    /// The kernel space of the TPM is in its newer form now.
+    Migrated,
+    /// The kernel space of the TPM was in its newer form already.
+    AlreadyMigrated,
+    /// The kernel space of the TPM has this fault, and stays.
+    RefusedMigrate(SpaceFault),
     /// There was no memory.
     OutOfMemory,
     /// The board was not opened.
@@ -60,6 +80,8 @@ pub enum Status {
     Reboot,
     /// A boot ended at a screen.
     Screen,
+    /// A value that was checked is another one.
+    Differs,
     /// A call of the flash failed.
     FlashFault,
     /// A call of the TPM failed.
@@ -72,6 +94,8 @@ pub enum Status {
     SinkFault,
     /// The map of the flash has a fault.
     BadFlash,
+    /// A word of the crossystem tool was refused.
+    RefusedWord,
     /// A command on a partition table was refused.
     RefusedCgpt,
     /// There was no memory.
@@ -82,6 +106,8 @@ pub enum Status {
     CannotOpen,
     /// The command does not stand yet.
     NotBuilt,
+    /// The kernel space of the TPM was not brought into its newer form.
+    RefusedMigrate,
 }
 
 impl Status {
@@ -94,17 +120,20 @@ impl Status {
             Status::Usage => 1,
             Status::Reboot => 2,
             Status::Screen => 3,
+            Status::Differs => 4,
             Status::FlashFault => 5,
             Status::TpmFault => 6,
             Status::DriveFault => 7,
             Status::HookFault => 8,
             Status::SinkFault => 9,
             Status::BadFlash => 11,
+            Status::RefusedWord => 13,
             Status::RefusedCgpt => 14,
             Status::NoMemory => 15,
             Status::RefusedMake => 16,
             Status::CannotOpen => 17,
             Status::NotBuilt => 19,
+            Status::RefusedMigrate => 20,
         }
     }
 }
@@ -131,6 +160,17 @@ fn name_of_refusal(refusal: CgptRefusal) -> &'static [u8]
         CgptRefusal::BadValue => b"BadValue",
         CgptRefusal::NoTable => b"NoTable",
         CgptRefusal::NoEntry => b"NoEntry",
+    }
+}
+
+fn name_of_code(code: CrossCode) -> &'static [u8]
+    ensures name { result.now ≡ code_name code }
+    ensures short { length result.now ≤ 10 }
+{
+    match code {
+        CrossCode::UnknownKey => b"UnknownKey",
+        CrossCode::ReadOnly => b"ReadOnly",
+        CrossCode::BadValue => b"BadValue",
     }
 }
 
@@ -184,6 +224,10 @@ impl Answer {
             Answer::WrongSize(_) | Answer::HookFull => Status::RefusedMake,
             Answer::Unopened(OpenFault::CannotOpen(_)) => Status::CannotOpen,
             Answer::CgptNotBuilt => Status::NotBuilt,
+            Answer::RefusedWord { .. } => Status::RefusedWord,
+            Answer::Differs { .. } => Status::Differs,
+            Answer::Migrated | Answer::AlreadyMigrated => Status::Done,
+            Answer::RefusedMigrate(_) => Status::RefusedMigrate,
         }
     }
 
@@ -201,6 +245,13 @@ impl Answer {
             Answer::HookFull => line(b"refused make hook full"),
             Answer::RefusedCgpt(refusal) => named(b"refused cgpt ", name_of_refusal(*refusal)),
             Answer::CgptNotBuilt => line(b"not built cgpt"),
+            Answer::RefusedWord { word, code } => refused_word_text(*word, *code),
+            Answer::Differs { word } => numbered(b"differs word ", *word),
+            Answer::Migrated => line(b"migrated"),
+            Answer::AlreadyMigrated => line(b"already v1"),
+            Answer::RefusedMigrate(fault) => {
+                numbered(b"refused migrate ", u64::from(fault.number()))
+            }
             Answer::OutOfMemory | Answer::Unopened(OpenFault::Memory) => line(b"out of memory"),
             Answer::Unopened(OpenFault::CannotOpen(file)) => {
                 named(b"cannot open ", file.name().as_bytes())
@@ -229,6 +280,30 @@ fn named(words: &[u8], name: &[u8]) -> Text
     let mut text = Text::new();
     text.push(words);
     text.push(name);
+    text.push(b"\n");
+    text
+}
+
+// A line that ends in a number.
+fn numbered(words: &[u8], number: u64) -> Text
+    requires { length words.now ≤ 64 }
+    ensures { result ≡ line_of (words.now ++ decimal number) }
+{
+    let mut text = Text::new();
+    text.push(words);
+    text.push_decimal(number);
+    text.push(b"\n");
+    text
+}
+
+fn refused_word_text(word: u64, code: CrossCode) -> Text
+    ensures { result ≡ text_of (Answer.RefusedWord word code) }
+{
+    let mut text = Text::new();
+    text.push(b"refused word ");
+    text.push_decimal(word);
+    text.push(b" ");
+    text.push(name_of_code(code));
     text.push(b"\n");
     text
 }

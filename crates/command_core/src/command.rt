@@ -28,6 +28,10 @@ pub enum Command {
     },
     /// A command on the partition table of a drive.
     Cgpt(CgptCall),
+    /// The crossystem tool, whose words are those behind the first one.
+    Crossystem,
+    /// The kernel space of the TPM is to be brought into its newer form.
+    Migrate,
 }
 
 /// The command of these words.
@@ -67,6 +71,10 @@ fn plain_command(words: &[String]) -> Option<Command>
         Some(Command::ShowFlash)
     } else if let Some(number) = number_behind(words, b"make") {
         Some(Command::Make(number))
+    } else if let Some(_rest) = behind(words, b"crossystem") {
+        Some(Command::Crossystem)
+    } else if is_one(words, b"migrate") {
+        Some(Command::Migrate)
     } else {
         partition_command(words)
     }

@@ -2,16 +2,18 @@
 //!
 //! - `command` has the commands and their words, `switch_words` those of a boot, and `answer` what each came to, with its text and
 //!   its exit status.
-//! - `booting`, `kernel_showing`, `making`, `partitions` and `showing` work a command on a board, and `running` any of them;
+//! - `booting`, `crossing`, `kernel_showing`, `making`, `migrating`, `partitions` and `showing` work a command on a board, and `running` any of them;
 //!   `printing` puts the answer, and `laws` has that it tells what a boot came to.
 #![tactic(auto)]
 
 mod answer;
 mod booting;
 mod command;
+mod crossing;
 mod kernel_showing;
 mod laws;
 mod making;
+mod migrating;
 mod partitions;
 mod printing;
 mod running;

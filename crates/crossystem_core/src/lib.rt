@@ -29,3 +29,4 @@ pub use setting::set;
 pub use showing::{CrossView, Hwid, check, get};
 pub use tool::crossystem;
 pub use values::ValueText;
+pub use words::{Refusal, first_refusal};

@@ -22,11 +22,13 @@ pub(crate) enum Sign {
     Check,
 }
 
-/// A word that is refused, by its number, from 1.
-#[derive(Clone, Copy, Debug)]
-pub(crate) struct Refusal {
-    pub(crate) word: u64,
-    pub(crate) code: CrossCode,
+/// A word that is refused.
+#[derive(Clone, Copy, Debug, PartialEq, Eq)]
+pub struct Refusal {
+    /// Its number, from 1.
+    pub word: u64,
+    /// Why.
+    pub code: CrossCode,
 }
 
 // What a word asks for.
@@ -143,8 +145,8 @@ pub(crate) fn word_at(words: &[String], i: usize) -> &[u8]
     words[i].as_bytes()
 }
 
-// The first word that is refused.
-pub(crate) fn first_refusal(words: &[String]) -> Option<Refusal>
+/// The first word of a call that is refused, before anything is read.
+pub fn first_refusal(words: &[String]) -> Option<Refusal>
     ensures { result ≡ spec.refused_from 1 (map string_bytes words.now) }
 {
     for i in 0..words.len() {

@@ -35,7 +35,7 @@ below_next form n text =
     ap (λ (m : ℕ). value_below form m text) next
 
 -- what was found stays under a larger count
-below_more : (form : Form) (more n v : ℕ) (text : List ℕ) → value_below form n text ≡ Some v → value_below form (more + n) text ≡ Some v
+pub below_more : (form : Form) (more n v : ℕ) (text : List ℕ) → value_below form n text ≡ Some v → value_below form (more + n) text ≡ Some v
 below_more form zero n v text found =
     let none : 0 + n ≡ n = omega arith in
     ap (λ (m : ℕ). value_below form m text) none ∙ found

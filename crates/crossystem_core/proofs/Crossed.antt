@@ -29,11 +29,13 @@ use Rattle.crossystem_core.proofs.Seen.{observed_none}
 
 -- ---- the plan
 
-plan_refused : (words : List (List ℕ)) (seen : Result CrossView MapFault) (refusal : Refusal) → refused_from 1 words ≡ Some refusal → plan_without (fault.Refused refusal.word refusal.code) ≡ cross_plan words seen
+plan_refused : (words : List (List ℕ)) (seen : Result CrossView MapFault) (refusal : Refusal) → refused_from 1 words ≡ Some refusal
+    → plan_without (fault.Refused refusal.word refusal.code) ≡ cross_plan words seen
 unfolding cross_plan
 plan_refused words seen refusal is = sym (ap (λ (r : Option Refusal). plan_by r words seen) is)
 
-plan_accepted : (words : List (List ℕ)) (seen : Result CrossView MapFault) → refused_from 1 words ≡ None → plan_seen words seen ≡ cross_plan words seen
+plan_accepted : (words : List (List ℕ)) (seen : Result CrossView MapFault) → refused_from 1 words ≡ None
+    → plan_seen words seen ≡ cross_plan words seen
 unfolding cross_plan
 plan_accepted words seen none = sym (ap (λ (r : Option Refusal). plan_by r words seen) none)
 
@@ -46,7 +48,8 @@ putting_of None = tt
 counts_none : (n : ℕ) → CountsFaults n n false
 counts_none n = record { later = omega arith; cause = λ failed. absurd (false≢true failed); no_fault = λ ok. refl }
 
-kept_by : (area place : ℕ) (page : Option ℕ) (bytes : List ℕ) → IfSome page (λ (p : ℕ). range bytes (area + 4096 * p) place ≡ range bytes (area + 4096 * p) place)
+kept_by : (area place : ℕ) (page : Option ℕ) (bytes : List ℕ)
+    → IfSome page (λ (p : ℕ). range bytes (area + 4096 * p) place ≡ range bytes (area + 4096 * p) place)
 kept_by area place (Some p) bytes = refl
 kept_by area place None bytes = tt
 
@@ -91,18 +94,21 @@ crosses_refused at words old tpm put word code is =
 
 module _ (at : ℕ) (words : List (List ℕ)) (none : refused_from 1 words ≡ None) (old mid : FlashState) (tpm tpm' : TpmState) where
   -- what stays of the TPM that was read, and all of the sink but what it holds and counts
-  frame_read : (answer : Result (Result CrossView MapFault) Device) → ReadsView at old mid tpm tpm' answer → (seen : Result CrossView MapFault) (new : FlashMedium)
+  frame_read : (answer : Result (Result CrossView MapFault) Device) → ReadsView at old mid tpm tpm' answer
+      → (seen : Result CrossView MapFault) (new : FlashMedium)
       → FrameNv seen old.medium new → (put put' : StreamState) → put'.told ≡ put.told → FrameCross seen old.medium new tpm tpm' put put'
   frame_read answer read seen new frame put put' told = record { of_flash = frame; told = read.tpm_told; spaces = read.spaces; locks = read.locks; put_told = told }
 
   module _ (put : StreamState) where
     -- nothing but reading was done
-    unchanged : (answer : Result (Result CrossView MapFault) Device) → ReadsView at old mid tpm tpm' answer → (seen : Result CrossView MapFault) → FrameCross seen old.medium mid.medium tpm tpm' put put
+    unchanged : (answer : Result (Result CrossView MapFault) Device) → ReadsView at old mid tpm tpm' answer
+        → (seen : Result CrossView MapFault) → FrameCross seen old.medium mid.medium tpm tpm' put put
     unchanged answer read seen = frame_read answer read seen mid.medium (frame_there seen old.medium mid.medium read.medium) put put refl
 
     -- ---- the map has a fault
 
-    pub crosses_bad_flash : (bad : MapFault) → ReadsView at old mid tpm tpm' (Ok (Err bad)) → Crosses at words old mid tpm tpm' put put (Err (fault.BadFlash bad))
+    pub crosses_bad_flash : (bad : MapFault) → ReadsView at old mid tpm tpm' (Ok (Err bad))
+        → Crosses at words old mid tpm tpm' put put (Err (fault.BadFlash bad))
     crosses_bad_flash bad read = record {
       by = record { seen = Err bad; found = read.seen; plan = plan_without (fault.BadFlash bad); planned = plan_accepted words (Err bad) none };
       answer = refl;
@@ -126,10 +132,12 @@ module _ (at : ℕ) (words : List (List ℕ)) (none : refused_from 1 words ≡ N
         let seen = seen_in at old.medium tpm.spaces in
         record { seen = seen; found = λ told told'. refl; plan = cross_plan words seen; planned = refl }
 
-    read_step : (failed : Bool) → Observed old.counters mid.counters failed → MadeStep old.counters mid.counters (calls_of plan_there.plan.change plan_there.seen) true failed
+    read_step : (failed : Bool) → Observed old.counters mid.counters failed
+        → MadeStep old.counters mid.counters (calls_of plan_there.plan.change plan_there.seen) true failed
     read_step failed counters = step_cut old.counters mid.counters (calls_of plan_there.plan.change plan_there.seen) 0 failed (omega arith) (made_only_observed old.counters mid.counters failed counters)
 
-    flash_unread : ReadsView at old mid tpm tpm' (Err device.Flash) → Crosses at words old mid tpm tpm' put put (Err (fault.Device device.Flash))
+    flash_unread : ReadsView at old mid tpm tpm' (Err device.Flash)
+        → Crosses at words old mid tpm tpm' put put (Err (fault.Device device.Flash))
     flash_unread read = record {
       by = plan_there;
       answer = inl refl;
@@ -155,7 +163,8 @@ module _ (at : ℕ) (words : List (List ℕ)) (none : refused_from 1 words ≡ N
       texts = λ told. refl;
     }
 
-    pub crosses_unread : (failed : Device) → ReadsView at old mid tpm tpm' (Err failed) → Crosses at words old mid tpm tpm' put put (Err (fault.Device failed))
+    pub crosses_unread : (failed : Device) → ReadsView at old mid tpm tpm' (Err failed)
+        → Crosses at words old mid tpm tpm' put put (Err (fault.Device failed))
     crosses_unread failed read =
         elim read.devices [
           | inl is ↦ subst (λ (d : Device). Crosses at words old mid tpm tpm' put put (Err (fault.Device d))) (sym is)
@@ -174,7 +183,8 @@ module _ (at : ℕ) (words : List (List ℕ)) (none : refused_from 1 words ≡ N
       pub made : failed ≡ false → IsTrue old.medium.told → IsMade change (Ok view) old.medium new.medium
       pub left : failed ≡ true → IsUnstored change (Ok view) old new
 
-    frame_saved : {E : Type 0} (r : List ℕ) (result : Result Unit E) → Saves view.nvram view.state r mid new result → FrameNv (Ok view) mid.medium new.medium
+    frame_saved : {E : Type 0} (r : List ℕ) (result : Result Unit E) → Saves view.nvram view.state r mid new result
+        → FrameNv (Ok view) mid.medium new.medium
     frame_saved r (Ok done) saves = record {
       size = saves.size;
       told = saves.told;
@@ -235,11 +245,13 @@ module _ (at : ℕ) (words : List (List ℕ)) (none : refused_from 1 words ≡ N
     whole : Stored meant false → MadeStep old.counters new.counters (calls_of meant (Ok view)) false false
     whole stored = step_whole old.counters new.counters (calls_of meant (Ok view)) stored.counters
 
-    frame_left : (failed : Bool) → Stored meant failed → (put put' : StreamState) → put'.told ≡ put.told → FrameCross (Ok view) old.medium new.medium tpm tpm' put put'
+    frame_left : (failed : Bool) → Stored meant failed → (put put' : StreamState) → put'.told ≡ put.told
+        → FrameCross (Ok view) old.medium new.medium tpm tpm' put put'
     frame_left failed stored = frame_read (Ok (Ok view)) read (Ok view) new.medium stored.frame
 
     -- the record could not be stored
-    pub crosses_unstored : (e : Failed) → Stores {E = Failed} view meant mid new (Err e) → (put : StreamState) → Crosses at words old new tpm tpm' put put (Err (fault.Device device.Flash))
+    pub crosses_unstored : (e : Failed) → Stores {E = Failed} view meant mid new (Err e) → (put : StreamState)
+        → Crosses at words old new tpm tpm' put put (Err (fault.Device device.Flash))
     crosses_unstored e stores put =
         let stored = stored_err meant e stores in
         let n = calls_of meant (Ok view) in
@@ -258,7 +270,8 @@ module _ (at : ℕ) (words : List (List ℕ)) (none : refused_from 1 words ≡ N
     -- ---- the lines are put
 
     module _ (stores : Stores {E = Failed} view (change_of view (ends_of view false 1 words)) mid new (Ok tt)) (put put' : StreamState) where
-      pub crosses_unput : (e : Failed) → PutsText (text_of_words view words) put put' (Err e) → Crosses at words old new tpm tpm' put put' (Err fault.Write)
+      pub crosses_unput : (e : Failed) → PutsText (text_of_words view words) put put' (Err e)
+          → Crosses at words old new tpm tpm' put put' (Err fault.Write)
       crosses_unput e puts = record {
         by = plan_over;
         answer = putting_of (ends_of view false 1 words).differs;
@@ -271,7 +284,8 @@ module _ (at : ℕ) (words : List (List ℕ)) (none : refused_from 1 words ≡ N
         texts = puts.err;
       }
 
-      pub crosses_differs : (word : ℕ) → (ends_of view false 1 words).differs ≡ Some word → PutsText {E = Failed} (text_of_words view words) put put' (Ok tt)
+      pub crosses_differs : (word : ℕ) → (ends_of view false 1 words).differs ≡ Some word
+          → PutsText {E = Failed} (text_of_words view words) put put' (Ok tt)
           → Crosses at words old new tpm tpm' put put' (Err (fault.Differs word))
       crosses_differs word is puts = record {
         by = plan_over;
@@ -285,7 +299,8 @@ module _ (at : ℕ) (words : List (List ℕ)) (none : refused_from 1 words ≡ N
         texts = puts.ok;
       }
 
-      pub crosses_ok : (ends_of view false 1 words).differs ≡ None → PutsText {E = Failed} (text_of_words view words) put put' (Ok tt) → Crosses at words old new tpm tpm' put put' (Ok tt)
+      pub crosses_ok : (ends_of view false 1 words).differs ≡ None → PutsText {E = Failed} (text_of_words view words) put put' (Ok tt)
+          → Crosses at words old new tpm tpm' put put' (Ok tt)
       crosses_ok is puts = record {
         by = plan_over;
         answer = sym (ap answer_of is);

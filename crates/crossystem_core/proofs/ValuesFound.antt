@@ -28,7 +28,8 @@ ok_is a b is = cc
 err_ok : {f : SetFault} (b : Setting) → (let r : Result Setting SetFault = Err f in r) ≡ Ok b → ⊥
 err_ok b is = cc
 
-pub below_next : (form : Form) (n : ℕ) (text : List ℕ) → value_below form (n + 1) text ≡ first_some (value_below form n text) (value_with form n text)
+pub below_next : (form : Form) (n : ℕ) (text : List ℕ)
+    → value_below form (n + 1) text ≡ first_some (value_below form n text) (value_with form n text)
 unfolding value_below
 below_next form n text =
     let next : n + 1 ≡ suc n = omega arith in
@@ -44,13 +45,15 @@ below_more form (suc more) n v text found =
     ap (λ (m : ℕ). value_below form m text) next ∙ below_next form (more + n) text
     ∙ ap (λ (o : Option ℕ). first_some o (value_with form (more + n) text)) (below_more form more n v text found)
 
-pub found_below : (form : Form) (count v : ℕ) (text : List ℕ) → v < count → value_below form v text ≡ None → value_with form v text ≡ Some v → Some v ≡ value_below form count text
+pub found_below : (form : Form) (count v : ℕ) (text : List ℕ) → v < count → value_below form v text ≡ None
+    → value_with form v text ≡ Some v → Some v ≡ value_below form count text
 found_below form count v text small none is =
     let here : value_below form (v + 1) text ≡ Some v = below_next form v text ∙ ap (λ (o : Option ℕ). first_some o (value_with form v text)) none ∙ is in
     let sum : count ≡ (count - (v + 1)) + (v + 1) = omega (arith, small) in
     sym (ap (λ (m : ℕ). value_below form m text) sum ∙ below_more form (count - (v + 1)) (v + 1) v text here)
 
-pub none_below : (form : Form) (v : ℕ) (text : List ℕ) → value_below form v text ≡ None → value_with form v text ≡ None → value_below form (v + 1) text ≡ None
+pub none_below : (form : Form) (v : ℕ) (text : List ℕ) → value_below form v text ≡ None → value_with form v text ≡ None
+    → value_below form (v + 1) text ≡ None
 none_below form v text none other = below_next form v text ∙ ap (λ (o : Option ℕ). first_some o (value_with form v text)) none ∙ other
 
 -- ---- what is taken is what is shown
@@ -91,10 +94,12 @@ version_shown text v is = by (length text == 10) is
     by false same = absurd (none_some v same)
 
 -- a setting that was taken of a text shows it
-pub setting_shown : (reads : Reads) (text r : List ℕ) (setting : Setting) → setting_by reads text ≡ Ok setting → Has r setting → record_text r reads ≡ text
+pub setting_shown : (reads : Reads) (text r : List ℕ) (setting : Setting) → setting_by reads text ≡ Ok setting → Has r setting
+    → record_text r reads ≡ text
 setting_shown (reads.Field field form (Some count)) text r setting is has = by (value_below form count text) refl is
   where
-    by : (o : Option ℕ) → value_below form count text ≡ o → taken o (λ (value : ℕ). Field field value) ≡ Ok setting → record_text r (reads.Field field form (Some count)) ≡ text
+    by : (o : Option ℕ) → value_below form count text ≡ o → taken o (λ (value : ℕ). Field field value) ≡ Ok setting
+        → record_text r (reads.Field field form (Some count)) ≡ text
     by (Some v) found same =
         let here : Has r (Field field v) = subst (Has r) (sym (ok_is (Field field v) setting same)) has in
         ap (value_text form) here ∙ below_shown form count text v found
@@ -102,7 +107,8 @@ setting_shown (reads.Field field form (Some count)) text r setting is has = by (
 setting_shown (reads.Field field form None) text r setting is has = absurd (err_ok setting is)
 setting_shown (reads.Ceiling which) text r setting is has = by (version_in text) refl is
   where
-    by : (o : Option ℕ) → version_in text ≡ o → taken o (λ (value : ℕ). Ceiling which value) ≡ Ok setting → record_text r (reads.Ceiling which) ≡ text
+    by : (o : Option ℕ) → version_in text ≡ o → taken o (λ (value : ℕ). Ceiling which value) ≡ Ok setting
+        → record_text r (reads.Ceiling which) ≡ text
     by (Some v) found same =
         let here : Has r (Ceiling which v) = subst (Has r) (sym (ok_is (Ceiling which v) setting same)) has in
         ap (hex_number 4) here ∙ version_shown text v found

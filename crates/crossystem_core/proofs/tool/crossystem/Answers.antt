@@ -19,10 +19,12 @@ returns-in-Some g c =
     let is : refused_from 1 words ≡ Some (record { word = c.in-Some.field-0.word; code = c.in-Some.field-0.code }) = sym c.first_refusal.ensures ∙ c.in-Some.is in
     crosses_refused c.args.map_at words _ _ _ c.in-Some.field-0.word c.in-Some.field-0.code is
 
-read_as : (at : ℕ) (old mid : FlashState) (tpm tpm' : TpmState) (answer seen : Result CrossView MapFault) → answer ≡ seen → ReadsView at old mid tpm tpm' (Ok answer) → ReadsView at old mid tpm tpm' (Ok seen)
+read_as : (at : ℕ) (old mid : FlashState) (tpm tpm' : TpmState) (answer seen : Result CrossView MapFault) → answer ≡ seen
+    → ReadsView at old mid tpm tpm' (Ok answer) → ReadsView at old mid tpm tpm' (Ok seen)
 read_as at old mid tpm tpm' answer seen is = subst (λ (r : Result CrossView MapFault). ReadsView at old mid tpm tpm' (Ok r)) is
 
-stores_as : (seen : CrossView) (mid new : FlashState) (result : Result Unit Failed) (ends ends' : Ends) → ends ≡ ends' → Stores seen (change_of seen ends) mid new result → Stores seen (change_of seen ends') mid new result
+stores_as : (seen : CrossView) (mid new : FlashState) (result : Result Unit Failed) (ends ends' : Ends) → ends ≡ ends'
+    → Stores seen (change_of seen ends) mid new result → Stores seen (change_of seen ends') mid new result
 stores_as seen mid new result ends ends' is = subst (λ (e : Ends). Stores seen (change_of seen e) mid new result) is
 
 pub returns-in-Ok-Err : goal.returns-in-Ok-Err

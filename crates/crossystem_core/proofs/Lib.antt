@@ -4,3 +4,4 @@ pub mod Seen
 pub mod LinesPut
 pub mod Crossed
 pub mod Unmigrated
+pub mod TextsTaken

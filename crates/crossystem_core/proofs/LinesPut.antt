@@ -33,13 +33,15 @@ module _ (text rest line more : List ℕ) (old mid new : StreamState) (so_far : 
   put_failed failed put =
       puts_more (so_far.front ++ line) text more old new failed whole_next (puts_then {D = Failed} so_far.front line old mid new (Err failed) so_far.put put)
 
-pub put_done : (text rest : List ℕ) (old now : StreamState) → PutSoFar text rest old now → rest ≡ [] → PutsText {E = Failed} text old now (Ok tt)
+pub put_done : (text rest : List ℕ) (old now : StreamState) → PutSoFar text rest old now → rest ≡ []
+    → PutsText {E = Failed} text old now (Ok tt)
 put_done text rest old now so_far none =
     subst (λ (x : List ℕ). PutsText {E = Failed} x old now (Ok tt)) (sym (so_far.whole ∙ ap (λ (x : List ℕ). so_far.front ++ x) none ∙ append-nil so_far.front)) so_far.put
 
 -- ---- the list of the keys
 
-pub list_next : (view : CrossView) (keys : List Key) (i : ℕ) (d : Key) → i < length keys → list_of view (drop i keys) ≡ list_line view (get_or keys i d) ++ list_of view (drop (i + 1) keys)
+pub list_next : (view : CrossView) (keys : List Key) (i : ℕ) (d : Key) → i < length keys
+    → list_of view (drop i keys) ≡ list_line view (get_or keys i d) ++ list_of view (drop (i + 1) keys)
 unfolding list_of
 list_next view keys i d small =
     let next : suc i ≡ i + 1 = omega arith in

@@ -33,7 +33,8 @@ abbrev made_view : NvState → ℕ → Option ℕ → Option ℕ → Option (Lis
 made_view state nvram firmware kernel hwid = record { state = state; nvram = nvram; firmware = firmware; kernel = kernel; hwid = hwid }
 
 -- the map has a fault
-pub bad_map : (at : ℕ) (old mapped : FlashState) (tpm : TpmState) (fault : MapFault) → ReadsMap at old mapped (Ok (Err fault)) → ReadsView at old mapped tpm tpm (Ok (Err fault))
+pub bad_map : (at : ℕ) (old mapped : FlashState) (tpm : TpmState) (fault : MapFault) → ReadsMap at old mapped (Ok (Err fault))
+    → ReadsView at old mapped tpm tpm (Ok (Err fault))
 unfolding seen_in
 bad_map at old mapped tpm fault read =
     let is : IsTrue old.medium.told → flash_map (map_question at old.medium) ≡ Err fault = λ told.

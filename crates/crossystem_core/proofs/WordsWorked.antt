@@ -40,20 +40,23 @@ next_word words i small =
     drop-cons words i [] small ∙ ap (λ (n : ℕ). get_or words i [] ∷ drop n words) next
 
 module _ (words : List (List ℕ)) (i : ℕ) (small : i < length words) (number : ℕ) where
-  pub refused_here : (code : CrossCode) → refusal_of (get_or words i []) ≡ Some code → refused_from number (drop i words) ≡ Some (record { word = number; code = code })
+  pub refused_here : (code : CrossCode) → refusal_of (get_or words i []) ≡ Some code
+      → refused_from number (drop i words) ≡ Some (record { word = number; code = code })
   unfolding refused_from
   refused_here code is =
       ap (refused_from number) (next_word words i small)
       ∙ ap (λ (r : Option CrossCode). refused_or number r (refused_from (number + 1) (drop (i + 1) words))) is
 
-  pub refused_next : refusal_of (get_or words i []) ≡ None → refused_from number (drop i words) ≡ refused_from (number + 1) (drop (i + 1) words)
+  pub refused_next : refusal_of (get_or words i []) ≡ None
+      → refused_from number (drop i words) ≡ refused_from (number + 1) (drop (i + 1) words)
   unfolding refused_from
   refused_next is =
       ap (refused_from number) (next_word words i small)
       ∙ ap (λ (r : Option CrossCode). refused_or number r (refused_from (number + 1) (drop (i + 1) words))) is
 
   module _ (view : CrossView) (set : Bool) where
-    pub ends_here : differs view (get_or words i []) ≡ true → ends_of view set number (drop i words) ≡ record { view = view; set = set; differs = Some number }
+    pub ends_here : differs view (get_or words i []) ≡ true
+        → ends_of view set number (drop i words) ≡ record { view = view; set = set; differs = Some number }
     unfolding ends_of
     ends_here is =
         let word = get_or words i [] in
@@ -87,7 +90,8 @@ module _ (words : List (List ℕ)) (i : ℕ) (small : i < length words) (number 
 
 module _ (words : List (List ℕ)) (i : ℕ) (small : i < length words) (word : List ℕ) (w : word ≡ get_or words i [])
     (key : Option Key) (sign : Sign) (text : List ℕ) (k : key ≡ key_of word) (s : sign ≡ sign_of word) (t : text ≡ text_of word) where
-  pub refused_at : (code : CrossCode) → refusal_by key sign text ≡ Some code → refused_from (i + 1) (drop i words) ≡ Some (record { word = i + 1; code = code })
+  pub refused_at : (code : CrossCode) → refusal_by key sign text ≡ Some code
+      → refused_from (i + 1) (drop i words) ≡ Some (record { word = i + 1; code = code })
   refused_at code is = refused_here words i small (i + 1) code (ap refusal_of (sym w) ∙ sym (refusal_asked word key sign text k s t) ∙ is)
 
   pub accepted_at : refusal_by key sign text ≡ None → refused_from (i + 1) (drop i words) ≡ refused_from (i + 1 + 1) (drop (i + 1) words)

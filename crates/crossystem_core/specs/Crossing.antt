@@ -170,30 +170,41 @@ Calls old new tpm tpm' put put' other = Unit {0}
 
 -- ---- a call
 
--- The words are worked on a machine whose map is looked for at a place.
-pub record Crosses (at : ℕ) (words : List (List ℕ)) (old new : FlashState) (tpm tpm' : TpmState) (put put' : StreamState)
-    (result : Result Unit CrossFault) : Type 0 where
+-- What a call goes by.
+pub record Planned (at : ℕ) (words : List (List ℕ)) (flash : FlashMedium) (tpm : TpmState) : Type 0 where
   -- what was seen is what the devices hold, where they tell it
   pub seen : Result CrossView MapFault
-  pub found : IsTrue old.medium.told → IsTrue tpm.told → seen ≡ seen_in at old.medium tpm.spaces
+  pub found : IsTrue flash.told → IsTrue tpm.told → seen ≡ seen_in at flash tpm.spaces
   -- and the plan is that of the words over it
   pub plan : CrossPlan
   pub planned : plan ≡ cross_plan words seen
-  pub answer : IsAnswer plan.answer result
+
+-- What is counted: the flash has so many changing calls, and the device that failed counted it, and none other counted a fault.
+pub record CountsCross (calls : ℕ) (old new : FlashState) (tpm tpm' : TpmState) (put put' : StreamState) (result : Result Unit CrossFault) : Type 0 where
+  pub of_flash : MadeStep old.counters new.counters calls (is_device result) (is_device_of device.Flash result)
+  pub of_tpm : Observed tpm.counters tpm'.counters (is_device_of device.Tpm result)
+  pub of_sink : CountsFaults put.faults put'.faults (is_write result)
+
+-- What stays, whatever the answer: all of the flash but its pages of nvdata, both spaces of the TPM and both locks.
+pub record FrameCross (seen : Result CrossView MapFault) (old new : FlashMedium) (tpm tpm' : TpmState) (put put' : StreamState) : Type 0 where
+  pub of_flash : FrameNv seen old new
+  pub told : tpm'.told ≡ tpm.told
+  pub spaces : tpm'.spaces ≡ tpm.spaces
+  pub locks : tpm'.locks ≡ tpm.locks
+  pub put_told : put'.told ≡ put.told
+
+-- The words are worked on a machine whose map is looked for at a place.
+pub record Crosses (at : ℕ) (words : List (List ℕ)) (old new : FlashState) (tpm tpm' : TpmState) (put put' : StreamState)
+    (result : Result Unit CrossFault) : Type 0 where
+  pub by : Planned at words old.medium tpm
+  pub answer : IsAnswer by.plan.answer result
   -- a device that failed hides no word that is refused, and no fault of the map
   pub accepted : IsTrue (is_device result) → refused_from 1 words ≡ None
   pub map : IsTrue old.medium.told → TellsMap (flash_map (map_question at old.medium)) result
-  -- the changing calls of the flash are those of the change, and the device that failed counted it, and none other counted a fault
-  pub flash_counters : MadeStep old.counters new.counters (calls_of plan.change seen) (is_device result) (is_device_of device.Flash result)
-  pub tpm_counters : Observed tpm.counters tpm'.counters (is_device_of device.Tpm result)
-  pub put_faults : CountsFaults put.faults put'.faults (is_write result)
+  pub counts : CountsCross (calls_of by.plan.change by.seen) old new tpm tpm' put put' result
   pub calls : Calls old new tpm tpm' put put' result
-  -- the change, and what stays whatever the answer
-  pub leaves : IsTrue old.medium.told → LeavesFlash plan.change seen old new result
-  pub frame : FrameNv seen old.medium new.medium
-  pub tpm_told : tpm'.told ≡ tpm.told
-  pub spaces : tpm'.spaces ≡ tpm.spaces
-  pub locks : tpm'.locks ≡ tpm.locks
+  -- the change
+  pub leaves : IsTrue old.medium.told → LeavesFlash by.plan.change by.seen old new result
+  pub frame : FrameCross by.seen old.medium new.medium tpm tpm' put put'
   -- the lines
-  pub put_told : put'.told ≡ put.told
-  pub texts : IsTrue put.told → PutsOf plan.lines put.bytes put'.bytes result
+  pub texts : IsTrue put.told → PutsOf by.plan.lines put.bytes put'.bytes result

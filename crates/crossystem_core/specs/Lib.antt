@@ -7,3 +7,4 @@ pub mod Running
 pub mod Reading
 pub mod Crossing
 pub mod Migrating
+pub mod Laws

@@ -1,7 +1,7 @@
 -- What a set does to a record.
-use Rattle.std.specs.Prelude.{ℕ, ◌≤◌, List, Option, Some, None, Result, Ok, Err}
-use Rattle.record_core.specs.Field.{greatest_value}
-use Rattle.record_core.specs.Nv.{with_field, with_ceiling, up_record}
+use Rattle.std.specs.Prelude.{◌≡◌, ℕ, ◌≤◌, List, Option, Some, None, Result, Ok, Err}
+use Rattle.record_core.specs.Field.{greatest_value, field_of}
+use Rattle.record_core.specs.Nv.{with_field, with_ceiling, up_record, ceiling_of}
 use Rattle.crossystem_core.specs.declared.key.Key.{Key}
 use Rattle.crossystem_core.specs.declared.key.Reads.{Reads}
 use Rattle.crossystem_core.specs.declared.key.Reads.TheVariants as reads
@@ -16,6 +16,11 @@ use Rattle.crossystem_core.specs.Values.{value_below, version_in}
 abbrev pub with_setting : List ℕ → Setting → List ℕ
 with_setting r (Field field value) = with_field r field value
 with_setting r (Ceiling which value) = with_ceiling (up_record r) which value
+
+-- the record has it
+abbrev pub Has : List ℕ → Setting → Type 0
+Has r (Field field value) = field_of r field ≡ value
+Has r (Ceiling which value) = ceiling_of r which ≡ value
 
 -- the value has room in its field
 abbrev pub FitsField : Setting → Type 0

@@ -16,7 +16,7 @@ use Rattle.crossystem_core.specs.declared.words.Refusal.{Refusal}
 use Rattle.crossystem_core.specs.declared.showing.CrossView.{CrossView}
 use Rattle.crossystem_core.specs.Keys.{key_named}
 use Rattle.crossystem_core.specs.Views.{key_text}
-use Rattle.crossystem_core.specs.Settings as settings
+use Rattle.crossystem_core.specs.Settings.{setting_in}
 
 -- ---- one word
 
@@ -50,9 +50,6 @@ abbrev pub text_of : List ℕ → List ℕ
 text_of word = text_behind (position is_sign word) word
 
 -- ---- refusals
-
-abbrev pub setting_in : Key → List ℕ → Result Setting SetFault
-setting_in key text = settings.setting_in key text
 
 abbrev pub set_refusal : Result Setting SetFault → Option CrossCode
 set_refusal (Ok setting) = None

@@ -1,5 +1,5 @@
 // The keys: one row each, with the name, what the key reads and what a set takes.
-ghost use Rattle.std.specs.Prelude.{◌≡◌, ◌≤◌, length};
+ghost use Rattle.std.specs.Prelude.{◌≡◌, ◌≤◌, length, Some};
 ghost use Rattle.std.specs.List.{find};
 ghost use Rattle.crossystem_core.specs.Keys.{row_of, all_keys, is_named, key_named, IsFitting};
 
@@ -84,13 +84,20 @@ pub(crate) struct Row {
     pub(crate) reads: Reads,
 }
 
-fn make_row(name: &'static str, reads: Reads) -> Row
+fn named(name: &'static str, reads: Reads) -> Row
     requires { length name.now ≤ 20 }
     ensures name { result.name.now ≡ name.now }
     ensures short { length result.name.now ≤ 20 }
     ensures reads { result.reads ≡ reads }
 {
     Row { name, reads }
+}
+
+// A field that is shown in digits, of which a set takes the first so many values.
+fn number(field: NvField, count: u16) -> Reads
+    ensures { result ≡ Reads.Field field Form.Number (Some count) }
+{
+    Reads::Field(field, Form::Number, Some(count))
 }
 
 impl Key {
@@ -134,44 +141,32 @@ impl Key {
         ensures fits { IsFitting result.reads }
         ensures short { length result.name.now ≤ 20 }
     {
-        use Form::{Drive, Number, Outcome, Slot};
+        use Form::{Drive, Outcome, Slot};
         use NvField as Nv;
         use Reads::Field;
         match self {
-            Key::DevBootSignedOnly => make_row(
-                "dev_boot_signed_only",
-                Field(Nv::SignedOnly, Number, Some(2)),
-            ),
-            Key::DevBootUsb => make_row("dev_boot_usb", Field(Nv::ExternalBoot, Number, Some(2))),
-            Key::DevDefaultBoot => make_row(
+            Key::DevBootSignedOnly => named("dev_boot_signed_only", number(Nv::SignedOnly, 2)),
+            Key::DevBootUsb => named("dev_boot_usb", number(Nv::ExternalBoot, 2)),
+            Key::DevDefaultBoot => named(
                 "dev_default_boot",
                 Field(Nv::DefaultBoot, Drive, Some(2)),
             ),
-            Key::DisableDevRequest => make_row(
-                "disable_dev_request",
-                Field(Nv::DisableDev, Number, Some(2)),
-            ),
-            Key::FwCeiling => make_row("fw_ceiling", Reads::Ceiling(Ceiling::Firmware)),
-            Key::FwPrevResult => make_row("fw_prev_result", Field(Nv::PrevResult, Outcome, None)),
-            Key::FwPrevTried => make_row("fw_prev_tried", Field(Nv::PrevTried, Slot, None)),
-            Key::FwResult => make_row("fw_result", Field(Nv::Result, Outcome, Some(4))),
-            Key::FwTried => make_row("fw_tried", Field(Nv::Tried, Slot, None)),
-            Key::FwTryCount => make_row("fw_try_count", Field(Nv::TryCount, Number, Some(16))),
-            Key::FwTryNext => make_row("fw_try_next", Field(Nv::TryNext, Slot, Some(2))),
-            Key::Hwid => make_row("hwid", Reads::Hwid),
-            Key::KernelCeiling => make_row("kernel_ceiling", Reads::Ceiling(Ceiling::Kernel)),
-            Key::LocIdx => make_row("loc_idx", Field(Nv::Localization, Number, Some(256))),
-            Key::NvramCleared => make_row("nvram_cleared", Field(Nv::KernelReset, Number, Some(1))),
-            Key::RecoveryRequest => make_row(
-                "recovery_request",
-                Field(Nv::RecoveryRequest, Number, Some(256)),
-            ),
-            Key::RecoverySubcode => make_row(
-                "recovery_subcode",
-                Field(Nv::RecoverySubcode, Number, Some(256)),
-            ),
-            Key::TpmFwver => make_row("tpm_fwver", Reads::FirmwareVersion),
-            Key::TpmKernver => make_row("tpm_kernver", Reads::KernelVersion),
+            Key::DisableDevRequest => named("disable_dev_request", number(Nv::DisableDev, 2)),
+            Key::FwCeiling => named("fw_ceiling", Reads::Ceiling(Ceiling::Firmware)),
+            Key::FwPrevResult => named("fw_prev_result", Field(Nv::PrevResult, Outcome, None)),
+            Key::FwPrevTried => named("fw_prev_tried", Field(Nv::PrevTried, Slot, None)),
+            Key::FwResult => named("fw_result", Field(Nv::Result, Outcome, Some(4))),
+            Key::FwTried => named("fw_tried", Field(Nv::Tried, Slot, None)),
+            Key::FwTryCount => named("fw_try_count", number(Nv::TryCount, 16)),
+            Key::FwTryNext => named("fw_try_next", Field(Nv::TryNext, Slot, Some(2))),
+            Key::Hwid => named("hwid", Reads::Hwid),
+            Key::KernelCeiling => named("kernel_ceiling", Reads::Ceiling(Ceiling::Kernel)),
+            Key::LocIdx => named("loc_idx", number(Nv::Localization, 256)),
+            Key::NvramCleared => named("nvram_cleared", number(Nv::KernelReset, 1)),
+            Key::RecoveryRequest => named("recovery_request", number(Nv::RecoveryRequest, 256)),
+            Key::RecoverySubcode => named("recovery_subcode", number(Nv::RecoverySubcode, 256)),
+            Key::TpmFwver => named("tpm_fwver", Reads::FirmwareVersion),
+            Key::TpmKernver => named("tpm_kernver", Reads::KernelVersion),
         }
     }
 }

@@ -6,11 +6,12 @@
 //! - `words` reads the words of a call, `running` works them, and `putting` puts what they show.
 //! - `tool` is the call that does all of it.
 //! - `migrating` brings the kernel space of a TPM into its newer form.
-//! - `fault` has the answers.
+//! - `fault` has the answers, and `laws` what is shown and taken.
 #![tactic(auto)]
 
 mod fault;
 mod key;
+mod laws;
 mod migrating;
 mod putting;
 mod reading;
@@ -23,6 +24,7 @@ mod words;
 
 pub use fault::{CrossCode, CrossFault, MigrateFault, SetFault};
 pub use key::{Key, find_key};
+pub use laws::shown_texts_are_taken;
 pub use migrating::migrate;
 pub use reading::view;
 pub use setting::set;

@@ -1,5 +1,4 @@
 // The kernel space of a TPM in its newer form.
-ghost use Rattle.std.specs.Prelude.{◌≡◌};
 ghost use Rattle.crossystem_core.specs.Migrating.{Migrates};
 
 use crate::fault::MigrateFault;

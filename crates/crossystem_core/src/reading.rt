@@ -1,7 +1,5 @@
 // Reading what a machine keeps.
 ghost use Rattle.std.specs.Prelude.{◌≡◌};
-ghost use Rattle.board_core.specs.Flash.{FlashState};
-ghost use Rattle.board_core.specs.Tpm.{TpmState};
 ghost use Rattle.rom_core.specs.MapFits.{FitsFlash};
 ghost use Rattle.crossystem_core.specs.Reading.{ReadsFlash, ReadsVersions, ReadsView, hwid_by};
 ghost use Rattle.crossystem_core.specs.Reading as spec;

@@ -1,7 +1,8 @@
 // What a set does to a record.
-ghost use Rattle.std.specs.Prelude.{◌≡◌, ◌≤◌, ◌+◌, IfOk, Some};
+ghost use Rattle.std.specs.Prelude.{◌≡◌, ◌≤◌, ◌+◌, IfOk, OnOk, Some};
 ghost use Rattle.record_core.specs.Field.{greatest_value};
-ghost use Rattle.crossystem_core.specs.Keys.{IsFitting};
+ghost use Rattle.crossystem_core.specs.Keys.{IsFitting, row_of};
+ghost use Rattle.crossystem_core.specs.Views.{record_text};
 ghost use Rattle.crossystem_core.specs.Settings as spec;
 
 use crate::fault::SetFault;
@@ -22,7 +23,8 @@ impl Setting {
     // Sets it in a record. A ceiling brings the record into form V2 first.
     pub(crate) fn apply(self, nv: &mut Nv)
         requires { spec.FitsField self }
-        ensures { nv.new ≡ spec.with_setting nv.old self }
+        ensures record { nv.new ≡ spec.with_setting nv.old self }
+        ensures has { spec.Has nv.new self }
     {
         match self {
             Setting::Field(field, value) => nv.set(field, value),
@@ -76,13 +78,14 @@ fn setting_in_field(
     }
 }
 
-/// Sets a key in a record to what a text says. A ceiling brings the record into form V2 first.
+/// Sets a key in a record to what a text says. A ceiling brings the record into form V2 first. The key shows that very text then.
 ///
 /// `ReadOnly`: exactly where the key is read only. `BadValue`: exactly where it is not, and the text is none of those that it
 /// takes. The record is as it was then.
 pub fn set(nv: &mut Nv, key: Key, text: &str) -> Result<(), SetFault>
     ensures answer { result ≡ spec.set_answer (spec.setting_in key text.now) }
     ensures record { nv.new ≡ spec.set_record nv.old (spec.setting_in key text.now) }
+    ensures shown { OnOk result (record_text nv.new (row_of key).reads ≡ text.now) }
 {
     match setting_of(key, text.as_bytes()) {
         Ok(setting) => {

@@ -1,15 +1,13 @@
 // The words of a call: what each asks for, and which is refused.
-ghost use Rattle.std.specs.Prelude.{◌≡◌, ◌||◌, ◌==◌, ◌<◌, ◌++◌, ◌+◌, ◌≤◌, map, position, length, get_or, [], IfSome};
+ghost use Rattle.std.specs.Prelude.{◌≡◌, ◌<◌, map, position, length, get_or, [], IfSome};
 ghost use Rattle.std.specs.String.{string_bytes};
-ghost use Rattle.crossystem_core.specs.Keys.{key_named};
-ghost use Rattle.crossystem_core.specs.Settings.{FitsField};
+ghost use Rattle.crossystem_core.specs.Settings.{FitsField, setting_in};
 ghost use Rattle.crossystem_core.specs.Words as spec;
 
 use crate::fault::{CrossCode, SetFault};
 use crate::key::{Key, find_named};
 use crate::setting::{Setting, setting_of};
-use crate::showing::{CrossView, is_text, push_key};
-use text_core::Text;
+use crate::showing::{CrossView, is_text};
 
 /// The sign of a word.
 #[derive(Clone, Copy, Debug, PartialEq, Eq)]
@@ -128,7 +126,7 @@ impl Ask<'_> {
 }
 
 fn set_refusal(key: Key, text: &[u8]) -> Option<CrossCode>
-    ensures { result ≡ spec.set_refusal (spec.setting_in key text.now) }
+    ensures { result ≡ spec.set_refusal (setting_in key text.now) }
 {
     match setting_of(key, text) {
         Ok(_) => None,

@@ -215,6 +215,7 @@ impl Nv {
         requires { form_of self.old ≡ the_form.V2 }
         ensures bytes { self.new ≡ with_ceiling self.old which value }
         ensures good { IsGoodRecord self.new }
+        ensures value { ceiling_of self.new which ≡ value }
     {
         if let NvLayout::V2(old) = self.layout {
             let mut bytes = old;

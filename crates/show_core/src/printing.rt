@@ -1,6 +1,6 @@
 // The text of what a flash or a partition holds, one line after the other. A function that appends asks for room for the most that it
 // appends, rounded up in places; all lines together stay under the 2,048 bytes of a text.
-ghost use Rattle.std.specs.Prelude.{◌≡◌, ◌+◌, ◌≤◌, ◌==◌, ◌++◌, length, decimal};
+ghost use Rattle.std.specs.Prelude.{◌≡◌, ◌+◌, ◌≤◌, ◌++◌, length, decimal};
 ghost use Rattle.text_core.specs.Numbers.{hex_number};
 ghost use Rattle.text_core.specs.Shown.{shown_field};
 ghost use Rattle.show_core.specs.Text as spec;

@@ -1,5 +1,4 @@
 // Reading the spaces of a TPM.
-ghost use Rattle.std.specs.Prelude.{◌≡◌};
 ghost use Rattle.space_core.specs.Reading.{ReadsFirmware, ReadsKernel, ReadsSpaces};
 
 use board_core::{Failed, Space, Tpm};

@@ -17,7 +17,8 @@ returns-then-differs c =
     sym (c.loop-i.invariant.rest ∙ differs_at words c.loop-i.i small c.word_at.result.now c.word_at.ensures asked.result.key asked.result.sign asked.result.text.now
     asked.ensures.key asked.ensures.sign asked.ensures.text ends.view ends.set (sym c.differs.ensures ∙ c.if-differs.true))
 
-same_ends : (a b : CrossView) (s t : Bool) (number : ℕ) (words : List (List ℕ)) → a ≡ b → s ≡ t → ends_of b t number words ≡ ends_of a s number words
+same_ends : (a b : CrossView) (s t : Bool) (number : ℕ) (words : List (List ℕ)) → a ≡ b → s ≡ t
+    → ends_of b t number words ≡ ends_of a s number words
 same_ends a b s t number words view set = cc
 
 pub loop-i-preserved : goal.loop-i-preserved

@@ -2,4 +2,5 @@
 pub mod Values
 pub mod Words
 pub mod Text
+pub mod Plans
 pub mod Tables

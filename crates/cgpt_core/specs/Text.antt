@@ -111,14 +111,14 @@ part_line index entry =
 abbrev pub entry_line : List ℕ → ℕ → List ℕ
 entry_line entries k = if is_used entries k then part_line (k + 1) (entry_in entries k) else []
 
--- the lines of the first so many entries
-unfoldable pub entry_lines : ℕ → List ℕ → List ℕ
-entry_lines zero entries = []
-entry_lines (suc k) entries = entry_lines k entries ++ entry_line entries k
+-- the lines of the first so many entries, by the line of each
+unfoldable pub lines_below : ℕ → (ℕ → List ℕ) → List ℕ
+lines_below zero line = []
+lines_below (suc k) line = lines_below k line ++ line k
 
 unfoldable pub head_lines : Drive → (sectors : ℕ) → Side → (agree : Bool) → PartitionTable → List ℕ
 head_lines drive sectors side agree table =
     drive_line drive sectors side agree ++ guid_line table.guid ++ usable_line table.first_usable table.last_usable
 
 abbrev pub table_text : Drive → (sectors : ℕ) → Side → (agree : Bool) → PartitionTable → List ℕ
-table_text drive sectors side agree table = head_lines drive sectors side agree table ++ entry_lines 128 table.entries
+table_text drive sectors side agree table = head_lines drive sectors side agree table ++ lines_below 128 (entry_line table.entries)

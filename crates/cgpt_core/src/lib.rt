@@ -2,17 +2,20 @@
 //!
 //! - `call` is a command with its values, and `reading` reads one from the words of a command line: `options` reads the values
 //!   of its options, and `values` says what a text stands for.
-//! - `opening` reads the table of a disk, `lines` makes the lines of its text, and `putting` puts them into a sink.
+//! - `opening` reads the table of a disk, `lines` makes the lines of its text, and `putting` puts them into a sink. `finding` puts
+//!   the entries that are looked for, and `saving` writes a table.
 //! - `working` works a command, and `fault` says why it did not.
 #![tactic(auto)]
 
 mod call;
 mod fault;
+mod finding;
 mod lines;
 mod opening;
 mod options;
 mod putting;
 mod reading;
+mod saving;
 mod values;
 mod working;
 

@@ -19,3 +19,4 @@ pub mod TableRows
 pub mod CommitSteps
 pub mod SettledReads
 pub mod FoundTables
+pub mod SameTables

@@ -20,3 +20,5 @@ pub mod CommitSteps
 pub mod SettledReads
 pub mod FoundTables
 pub mod SameTables
+pub mod Placed
+pub mod EachAttributes

@@ -1,17 +1,15 @@
 -- A table that a change makes is written, unless it stands already.
-use Rattle.std.proofs.Common.{◌≡◌, ◌∙◌, ◌⊎◌, ◌↔◌, inl, inr, ℕ, List, refl, sym, ap, subst, Bool, true, false, ◌&&◌, Option, Some, None, Ok, Err, Result}
+use Rattle.std.proofs.Common.{◌≡◌, ◌∙◌, ◌↔◌, inl, inr, ℕ, List, refl, sym, ap, subst, Bool, true, false, Option, Some, None, Ok, Err, Result}
 use Rattle.std.specs.Prelude.{IsTrue, if◌then◌else◌}
 use Rattle.std.proofs.lemmas.Bool.{false≢true, true≢false, and_parts, and_from, cases_Bool}
 use Rattle.board_core.specs.declared.device.Failed.{Failed}
 use Rattle.board_core.specs.Disk.{DiskState}
 use Rattle.board_core.specs.Streams.{StreamState}
-use Rattle.gpt_core.specs.Commits.{Commits}
 use Rattle.gpt_core.specs.Format.{PartitionTable}
-use Rattle.gpt_core.specs.Room.{RoomView, CanCommit}
-use Rattle.gpt_core.specs.Tables.{IsSource, says_same}
+use Rattle.gpt_core.specs.Room.{RoomView}
+use Rattle.gpt_core.specs.Tables.{says_same}
 use Rattle.gpt_core.proofs.SameTables.{says_same-Decides}
 use Rattle.cgpt_core.specs.declared.call.CgptCall.{CgptCall}
-use Rattle.cgpt_core.specs.declared.fault.CgptFault.{CgptFault}
 use Rattle.cgpt_core.specs.declared.fault.CgptFault.TheVariants as fault
 use Rattle.cgpt_core.specs.declared.opening.Opened.{Opened}
 use Rattle.cgpt_core.specs.Plans.{Plan, changed, plan_of, is_reader, stands_as}

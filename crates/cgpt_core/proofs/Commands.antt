@@ -1,12 +1,11 @@
 -- Each command follows its plan.
-use Rattle.std.proofs.Common.{◌≡◌, ◌∙◌, ℕ, inl, inr, ◌⊎◌, refl, sym, ap, subst, Bool, true, false, List, Option, Some, None, Ok, Err, Result}
-use Rattle.std.specs.Prelude.{IsTrue, codes, if◌then◌else◌, ◌++◌}
+use Rattle.std.proofs.Common.{◌≡◌, ◌∙◌, ℕ, refl, sym, ap, Bool, true, false, List, Option, Some, None, Ok, Err, Result}
+use Rattle.std.specs.Prelude.{codes, if◌then◌else◌, ◌++◌}
 use Rattle.board_core.specs.declared.device.Failed.{Failed}
 use Rattle.board_core.specs.Disk.{DiskState}
 use Rattle.board_core.specs.Streams.{StreamState}
 use Rattle.gpt_core.specs.declared.side.Side.{Side}
 use Rattle.gpt_core.specs.Commits.{Commits}
-use Rattle.gpt_core.specs.Format.{PartitionTable}
 use Rattle.gpt_core.specs.Room.{RoomView}
 use Rattle.cgpt_core.specs.declared.call.CgptCall.{CgptCall}
 use Rattle.cgpt_core.specs.declared.call.CgptCommand.{CgptCommand}
@@ -14,8 +13,8 @@ use Rattle.cgpt_core.specs.declared.call.CgptCommand.TheVariants as command
 use Rattle.cgpt_core.specs.declared.fault.CgptFault.{CgptFault}
 use Rattle.cgpt_core.specs.declared.fault.CgptFault.TheVariants as fault
 use Rattle.cgpt_core.specs.declared.opening.Opened.{Opened}
-use Rattle.cgpt_core.specs.Plans.{Plan, Standing, refused, told, repaired, repair_word, found_line, is_none_found, shown, plan_by, plan_of, is_reader}
-use Rattle.cgpt_core.specs.Tables.{is_device, Opens, PutsText, PutsWord, standing_of, Works}
+use Rattle.cgpt_core.specs.Plans.{Plan, Standing, refused, told, repair_word, found_line, is_none_found, plan_by, plan_of, is_reader}
+use Rattle.cgpt_core.specs.Tables.{Opens, PutsText, PutsWord, standing_of, Works}
 use Rattle.cgpt_core.specs.Text.{line_end, lines_below, table_text}
 use Rattle.cgpt_core.proofs.Planned.{works_kept, works_told, works_cut, works_refused, works_written, works_broken}
 use Rattle.cgpt_core.proofs.Telling.{tells_as}
@@ -34,16 +33,6 @@ module _ (call : CgptCall) (guid : List ℕ) (old mid : DiskState) (room : RoomV
       → Opens {E = Failed} old mid room (Ok None) → Works call guid old mid put put (Err fault.NoTable)
   works_without asked put same none opens =
       works_refused call guid old mid room None opens put fault.NoTable (plan_is asked None same ∙ none) refl refl
-
-  -- a command that does not stand yet
-  pub leaves_all : (found : Option Opened) (put : StreamState) → (call.command ≡ command.Add) ⊎ (call.command ≡ command.Prioritize)
-      → Opens {E = Failed} old mid room (Ok found) → Works call guid old mid put put (Err fault.NotBuilt)
-  leaves_all found put asked opens =
-      let is : plan_of old.medium.sectors (standing_of found room.table) call guid ≡ refused fault.NotBuilt = elim asked [
-        | inl add ↦ plan_is command.Add found add
-        | inr prioritize ↦ plan_is command.Prioritize found prioritize
-      ] in
-      works_refused call guid old mid room found opens put fault.NotBuilt is refl refl
 
   module _ (opened : Opened) (opens : Opens {E = Failed} old mid room (Ok (Some opened))) where
     abbrev standing : Standing

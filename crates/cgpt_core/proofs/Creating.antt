@@ -1,5 +1,5 @@
 -- A table that is created.
-use Rattle.std.proofs.Common.{◌≡◌, ◌∙◌, ◌↔◌, ◌⊎◌, ◌≤◌, ◌&&◌, ℕ, inl, inr, refl, sym, ap, subst, Bool, true, false, List, Option, Ok, Err, Result}
+use Rattle.std.proofs.Common.{◌≡◌, ◌∙◌, ◌↔◌, ◌≤◌, ℕ, inl, inr, refl, sym, ap, subst, Bool, true, false, List, Option, Ok, Err}
 use Rattle.std.specs.Prelude.{IsTrue, nat_le, if◌then◌else◌}
 use Rattle.std.proofs.lemmas.Bool.{true≢false, and_parts, cases_Bool, leb-true}
 use Rattle.board_core.specs.declared.device.Failed.{Failed}
@@ -11,10 +11,9 @@ use Rattle.gpt_core.proofs.Checks.{size_fits}
 use Rattle.cgpt_core.specs.declared.call.CgptCall.{CgptCall}
 use Rattle.cgpt_core.specs.declared.call.CgptCommand.{CgptCommand}
 use Rattle.cgpt_core.specs.declared.call.CgptCommand.TheVariants as command
-use Rattle.cgpt_core.specs.declared.fault.CgptFault.{CgptFault}
 use Rattle.cgpt_core.specs.declared.fault.CgptFault.TheVariants as fault
 use Rattle.cgpt_core.specs.declared.opening.Opened.{Opened}
-use Rattle.cgpt_core.specs.Plans.{Plan, changed, created, plan_by, plan_of, is_reader}
+use Rattle.cgpt_core.specs.Plans.{changed, plan_by, plan_of, is_reader}
 use Rattle.cgpt_core.specs.Tables.{Opens, Saves, standing_of, Works}
 use Rattle.cgpt_core.proofs.Planned.{works_refused}
 use Rattle.cgpt_core.proofs.Changes.{saves_all, saves_none}

@@ -8,3 +8,8 @@ pub mod MoreOptions
 pub mod ValuesRead
 pub mod Changes
 pub mod Creating
+pub mod FirstBelow
+pub mod Editing
+pub mod Counting
+pub mod Filled
+pub mod Ranked

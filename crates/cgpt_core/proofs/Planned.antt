@@ -3,7 +3,7 @@ use Rattle.std.proofs.Common.{◌≡◌, ◌∙◌, inl, inr, ℕ, refl, sym, ap
 use Rattle.std.specs.Prelude.{IsTrue, All}
 use Rattle.std.proofs.lemmas.Bool.{false≢true}
 use Rattle.board_core.specs.declared.device.Failed.{Failed}
-use Rattle.board_core.specs.Counters.{CountsFaults, MadeChanges, Observed, Rose}
+use Rattle.board_core.specs.Counters.{MadeChanges, Observed, Rose}
 use Rattle.board_core.specs.Disk.{DiskMedium, DiskState, overlaid}
 use Rattle.board_core.specs.Streams.{StreamState}
 use Rattle.board_core.specs.Torn.{Logs, Grown, added}
@@ -20,7 +20,8 @@ use Rattle.cgpt_core.specs.declared.fault.CgptFault.{CgptFault}
 use Rattle.cgpt_core.specs.declared.fault.CgptFault.TheVariants as fault
 use Rattle.cgpt_core.specs.declared.opening.Opened.{Opened}
 use Rattle.cgpt_core.specs.Plans.{Plan, refused, told, plan_of, is_reader}
-use Rattle.cgpt_core.specs.Tables.{is_device, is_write, BreaksTable, CallsSink, IsBroken, IsStanding, IsWritten, LeavesTable, Opens, PutsText, standing_of, Tells, Works}
+use Rattle.cgpt_core.specs.Faults.{is_device, is_write}
+use Rattle.cgpt_core.specs.Tables.{BreaksTable, CallsSink, IsBroken, IsStanding, IsWritten, LeavesTable, Opens, PutsText, standing_of, Tells, Works}
 use Rattle.cgpt_core.proofs.Telling.{silent_sink, silent_tells, failed_tells, text_sink, front_sink, text_tells, front_tells}
 
 -- ---- a disk that was read before

@@ -1,6 +1,5 @@
 -- What is put, by the answer.
-use Rattle.std.proofs.Common.{◌≡◌, ◌∙◌, ℕ, refl, sym, ap, subst, arith, Bool, true, false, List, [], ◌++◌, append-nil, Option, Ok, Err, Result}
-use Rattle.std.specs.Prelude.{IsTrue}
+use Rattle.std.proofs.Common.{◌≡◌, ◌∙◌, ℕ, refl, sym, ap, subst, arith, Bool, false, List, [], ◌++◌, append-nil, Option, Ok, Err, Result}
 use Rattle.std.proofs.lemmas.Bool.{false≢true, true≢false}
 use Rattle.board_core.specs.Counters.{CountsFaults}
 use Rattle.board_core.specs.declared.device.Failed.{Failed}
@@ -11,7 +10,8 @@ use Rattle.cgpt_core.specs.declared.fault.CgptFault.{CgptFault}
 use Rattle.cgpt_core.specs.declared.fault.CgptFault.TheVariants as fault
 use Rattle.cgpt_core.specs.declared.opening.Opened.{Opened}
 use Rattle.cgpt_core.specs.Plans.{Plan, told}
-use Rattle.cgpt_core.specs.Tables.{is_device, is_write, CallsSink, IsFrontPut, Opens, PutsText, PutsWord, Tells}
+use Rattle.cgpt_core.specs.Faults.{is_write}
+use Rattle.cgpt_core.specs.Tables.{CallsSink, IsFrontPut, Opens, PutsText, PutsWord, Tells}
 use Rattle.cgpt_core.proofs.Fronts.{puts_call}
 
 -- what was found is this

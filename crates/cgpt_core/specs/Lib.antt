@@ -2,5 +2,8 @@
 pub mod Values
 pub mod Words
 pub mod Text
+pub mod Faults
+pub mod Adding
+pub mod Ranking
 pub mod Plans
 pub mod Tables

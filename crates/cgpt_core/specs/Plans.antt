@@ -1,6 +1,6 @@
 -- What a command comes to: a function of the table that stands on the drive, of the call, and of the GUID that the call may use.
 -- Source: the manual page cgpt(1) of ChromiumOS. The order of the refusals is this project's own.
-use Rattle.std.specs.Prelude.{ℕ, ◌+◌, Bool, true, false, ◌&&◌, ◌==◌, not, nat_le, nat_eq, if◌then◌else◌, List, [], ◌++◌, codes, decimal, Option, Some, None, Result, Ok, Err}
+use Rattle.std.specs.Prelude.{ℕ, ◌+◌, Bool, true, false, ◌&&◌, not, nat_eq, if◌then◌else◌, List, [], ◌++◌, codes, decimal, Option, Some, None, Result, Ok, Err}
 use Rattle.std.specs.Cmp.Lexicographic.{pointwise}
 use Rattle.std.specs.Option.{option_map_or}
 use Rattle.gpt_core.specs.declared.entry.Entry.{Entry}
@@ -14,6 +14,8 @@ use Rattle.cgpt_core.specs.declared.call.CgptCommand.TheVariants as command
 use Rattle.cgpt_core.specs.declared.fault.CgptFault.{CgptFault}
 use Rattle.cgpt_core.specs.declared.fault.CgptFault.TheVariants as fault
 use Rattle.cgpt_core.specs.declared.opening.Opened.{Opened}
+use Rattle.cgpt_core.specs.Adding.{added}
+use Rattle.cgpt_core.specs.Ranking.{prioritized}
 use Rattle.cgpt_core.specs.Text.{line_end, lines_below, table_text}
 
 -- The table that stands on a drive: the copy from which it is taken, whether both copies agree, and what it says.
@@ -54,6 +56,10 @@ stands_as None table = false
 abbrev pub changed : Option Standing → Result PartitionTable CgptFault → Plan
 changed standing (Ok table) = record { answer = Ok tt; lines = []; table = if stands_as standing table then None else Some table }
 changed standing (Err why) = refused why
+
+-- the same for a change of the table that stands
+abbrev pub edited : (PartitionTable → Result PartitionTable CgptFault) → Standing → Plan
+edited change standing = changed (Some standing) (change standing.table)
 
 -- ---- repair
 
@@ -107,10 +113,22 @@ found call standing =
 abbrev pub shown : CgptCall → (sectors : ℕ) → Standing → Plan
 shown call sectors standing = told (table_text call.drive sectors standing.opened.side standing.opened.agree standing.table)
 
+-- a command that changes the table that stands
+abbrev pub is_editor : CgptCommand → Bool
+is_editor command.Add = true
+is_editor command.Prioritize = true
+is_editor other = false
+
+-- what it makes of that table
+abbrev pub edit_by : CgptCommand → CgptCall → (guid : List ℕ) → PartitionTable → Result PartitionTable CgptFault
+edit_by command.Add call guid table = added call guid table
+edit_by command.Prioritize call guid table = prioritized call table
+edit_by other call guid table = Ok table
+
 abbrev pub plan_by : CgptCommand → (sectors : ℕ) → Option Standing → CgptCall → (guid : List ℕ) → Plan
 plan_by command.Create sectors standing call guid = changed standing (created sectors guid)
-plan_by command.Add sectors standing call guid = refused fault.NotBuilt
-plan_by command.Prioritize sectors standing call guid = refused fault.NotBuilt
+plan_by command.Add sectors standing call guid = with_table standing (edited (edit_by command.Add call guid))
+plan_by command.Prioritize sectors standing call guid = with_table standing (edited (edit_by command.Prioritize call guid))
 plan_by command.Repair sectors standing call guid = with_table standing repaired
 plan_by command.Show sectors standing call guid = with_table standing (shown call sectors)
 plan_by command.Find sectors standing call guid = with_table standing (found call)

@@ -1,5 +1,5 @@
 -- What the commands do to a disk, and what they put into a sink.
-use Rattle.std.specs.Prelude.{◌≡◌, ◌↔◌, ◌⊎◌, ℕ, ◌≤◌, Bool, true, false, IsTrue, List, ◌++◌, All, Option, Some, None, Result, Ok, Err, is_err, OnOk, OnErr, IfOk, IfSome, IfNone}
+use Rattle.std.specs.Prelude.{◌≡◌, ◌↔◌, ◌⊎◌, ℕ, ◌≤◌, Bool, true, false, IsTrue, List, ◌++◌, All, Option, Some, None, Result, Ok, is_err, OnOk, OnErr, IfOk, IfSome, IfNone}
 use Rattle.board_core.specs.Counters.{CountsFaults, Observed, MadeChanges, Rose}
 use Rattle.board_core.specs.Disk.{DiskMedium, DiskState, Flushed}
 use Rattle.board_core.specs.Streams.{StreamState}
@@ -14,8 +14,8 @@ use Rattle.gpt_core.specs.Room.{RoomView, room_with, empty_room}
 use Rattle.gpt_core.specs.Tables.{table_in, table_on, IsSource, CopiesAgree, BothHold}
 use Rattle.cgpt_core.specs.declared.call.CgptCall.{CgptCall}
 use Rattle.cgpt_core.specs.declared.fault.CgptFault.{CgptFault}
-use Rattle.cgpt_core.specs.declared.fault.CgptFault.TheVariants as fault
 use Rattle.cgpt_core.specs.declared.opening.Opened.{Opened}
+use Rattle.cgpt_core.specs.Faults.{is_device, is_write}
 use Rattle.cgpt_core.specs.Plans.{Standing, Plan, told, plan_of, is_reader}
 
 -- ---- the table of a disk
@@ -70,18 +70,6 @@ pub record PutsText {E : Type 0} (text : List ℕ) (old new : StreamState) (resu
   pub told : new.told ≡ old.told
   pub ok : IsTrue old.told → OnOk result (new.bytes ≡ old.bytes ++ text)
   pub err : IsTrue old.told → OnErr result (IsFrontPut text old.bytes new.bytes)
-
--- ---- answers
-
--- the disk failed
-abbrev pub is_device : Result Unit CgptFault → Bool
-is_device (Err fault.Device) = true
-is_device other = false
-
--- the sink failed
-abbrev pub is_write : Result Unit CgptFault → Bool
-is_write (Err fault.Write) = true
-is_write other = false
 
 -- ---- what becomes of the disk
 

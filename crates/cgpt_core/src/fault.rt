@@ -12,8 +12,16 @@ pub enum CgptFault {
     NoTable,
     /// There is no such entry.
     NoEntry,
-    /// The command does not stand yet.
-    NotBuilt,
+    /// All entries are used.
+    NoFreeEntry,
+    /// A value is wanting or out of its range.
+    BadValue,
+    /// The entry has no sector, or one outside the usable ones.
+    Outside,
+    /// The entry would share a sector with another used one.
+    Overlap,
+    /// Another used entry has the unique GUID.
+    DuplicateUnique,
     /// The sink failed, and a beginning of the text was put. The disk is as the command leaves it.
     Write,
 }

@@ -40,12 +40,7 @@ pub(crate) fn put_found<O: Sink>(out: &mut O, call: &CgptCall, room: &GptRoom) -
 }
 
 // Puts the index of entry `k`, from 0, where it is used and has all that is given.
-fn put_if_found<O: Sink>(
-    out: &mut O,
-    call: &CgptCall,
-    room: &GptRoom,
-    k: u32,
-) -> Result<(), Failed>
+fn put_if_found<O: Sink>(out: &mut O, call: &CgptCall, room: &GptRoom, k: u32) -> Result<(), Failed>
     requires known { 1 ≤ room.now.sectors }
     requires valid { IsValidTable room.now.sectors room.now.table }
     requires place { k < 128 }

@@ -3,10 +3,12 @@
 //! - `call` is a command with its values, and `reading` reads one from the words of a command line: `options` reads the values
 //!   of its options, and `values` says what a text stands for.
 //! - `opening` reads the table of a disk, `lines` makes the lines of its text, and `putting` puts them into a sink. `finding` puts
-//!   the entries that are looked for, and `saving` writes a table.
+//!   the entries that are looked for, `adding` makes the table with one more entry, `ranking` orders its
+//!   kernels, and `saving` writes a table.
 //! - `working` works a command, and `fault` says why it did not.
 #![tactic(auto)]
 
+mod adding;
 mod call;
 mod fault;
 mod finding;
@@ -14,6 +16,7 @@ mod lines;
 mod opening;
 mod options;
 mod putting;
+mod ranking;
 mod reading;
 mod saving;
 mod values;

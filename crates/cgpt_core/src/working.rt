@@ -1,13 +1,18 @@
 // The commands.
-ghost use Rattle.std.specs.Prelude.{◌≡◌, ◌⊎◌, ℕ, List, IsTrue};
+ghost use Rattle.std.specs.Prelude.{◌≡◌, ◌≤◌, ℕ, List, true};
 ghost use Rattle.uuid.specs.Parts.{swap_fields};
+ghost use Rattle.gpt_core.specs.Format.{IsValidTable};
+ghost use Rattle.cgpt_core.specs.Adding.{Edits};
+ghost use Rattle.cgpt_core.specs.Plans.{edit_by, is_editor};
 ghost use Rattle.cgpt_core.specs.Tables.{PutsWord, Works};
 
+use crate::adding::add;
 use crate::call::{CgptCall, CgptCommand};
 use crate::fault::CgptFault;
 use crate::finding::{is_none_found, put_found};
 use crate::opening::open_table;
 use crate::putting::put_table;
+use crate::ranking::prioritize;
 use crate::saving::save;
 use board_core::{Disk, Failed, Sink};
 use gpt_core::{GptRoom, commit};
@@ -48,7 +53,7 @@ pub fn cgpt<D: Disk, O: Sink>(
         CgptCommand::Find => find(disk, room, call, out),
         CgptCommand::Repair => repair(disk, room, call, out),
         CgptCommand::Create => create(disk, room, call, fresh.to_bytes_le(), out),
-        _ => leave(disk, room, call, out),
+        _ => edit(disk, room, call, fresh.to_bytes_le(), out),
     }
 }
 
@@ -145,21 +150,42 @@ fn create<D: Disk, O: Sink>(
     Ok(())
 }
 
-// A command that does not stand yet.
-fn leave<D: Disk, O: Sink>(
+// Changes the table that stands.
+fn edit<D: Disk, O: Sink>(
     disk: &mut D,
     room: &mut GptRoom,
     call: &CgptCall,
+    guid: [u8; 16],
     out: &mut O,
 ) -> Result<(), CgptFault>
     requires settled { (D.state disk.old).medium.pending ≡ 0 }
-    requires command { (call.now.command ≡ CgptCommand.Add) ⊎ (call.now.command ≡ CgptCommand.Prioritize) }
-    ensures { (guid : List ℕ) → Works call.now guid (D.state disk.old) (D.state disk.new) (O.state out.old) (O.state out.new) result }
+    requires command { is_editor call.now.command ≡ true }
+    ensures { Works call.now guid (D.state disk.old) (D.state disk.new) (O.state out.old) (O.state out.new) result }
 {
-    let Ok(_opened) = open_table(disk, room) else {
+    let _opened = match open_table(disk, room) {
+        Ok(Some(opened)) => opened,
+        Ok(None) => return Err(CgptFault::NoTable),
+        Err(Failed) => return Err(CgptFault::Device),
+    };
+    if let Err(why) = edit_table(room, call, guid) {
+        return Err(why);
+    }
+    let Ok(()) = save(disk, room) else {
         return Err(CgptFault::Device);
     };
-    Err(CgptFault::NotBuilt)
+    Ok(())
+}
+
+fn edit_table(room: &mut GptRoom, call: &CgptCall, guid: [u8; 16]) -> Result<(), CgptFault>
+    requires known { 1 ≤ room.old.sectors }
+    requires valid { IsValidTable room.old.sectors room.old.table }
+    requires command { is_editor call.now.command ≡ true }
+    ensures { Edits (edit_by call.now.command call.now guid room.old.table) room.old room.new result }
+{
+    if call.command == CgptCommand::Add {
+        return add(room, call, guid);
+    }
+    prioritize(room, call)
 }
 
 // Puts a line.

@@ -1,5 +1,5 @@
 -- The attributes of all entries, one after the other.
-use Rattle.std.proofs.Common.{◌≡◌, ◌∙◌, ℕ, zero, suc, ◌+◌, ◌*◌, ◌≤◌, List, length, refl, ap, arith}
+use Rattle.std.proofs.Common.{◌≡◌, ◌∙◌, ℕ, zero, suc, ◌+◌, ◌*◌, ◌<◌, ◌≤◌, List, length, refl, ap, arith}
 use Rattle.byteorder.specs.Endian.{little_bytes}
 use Rattle.byteorder.specs.Numbers.{length-bytes_low_first}
 use Rattle.board_core.proofs.Overlays.{length-spliced}
@@ -41,3 +41,11 @@ each_valid sectors (suc k) table f valid within =
     let size = each_length k f table.entries valid.entries (omega arith) in
     attributes_valid sectors (record table { entries = with_each k f table.entries }) k (f k) (omega arith) before
     (set_length (with_each k f table.entries) k (f k) (omega (arith, size)) ∙ size)
+
+-- the same attributes give the same entries
+pub each_same : (count : ℕ) (one two : ℕ → ℕ) (entries : List ℕ) → ((k : ℕ) → k < count → one k ≡ two k) → with_each count one entries ≡ with_each count two entries
+unfolding with_each
+each_same zero one two entries same = refl
+each_same (suc k) one two entries same =
+    ap (λ (x : List ℕ). with_attributes x k (one k)) (each_same k one two entries (λ j below. same j (omega arith)))
+    ∙ ap (with_attributes (with_each k two entries) k) (same k (omega arith))

@@ -1,6 +1,11 @@
 -- The attributes of a kernel's entry: bits 48 to 51 are its priority, 52 to 55 its tries, and 56 says that it was successful.
 -- Source: the ChromiumOS disk format ("Selecting the kernel").
-use Rattle.std.specs.Prelude.{ℕ, ◌+◌, ◌*◌, ◌/◌, ◌%◌, ◌^◌}
+use Rattle.std.specs.Prelude.{ℕ, ◌+◌, ◌*◌, ◌/◌, ◌%◌, ◌^◌, List, [], ◌∷◌}
+
+-- the GUID of a kernel's type, fe3a2a5d-4f32-41a7-b725-accc3285a309, as a disk stores it
+abbrev pub kernel_type : List ℕ
+kernel_type =
+    0x5d ∷ 0x2a ∷ 0x3a ∷ 0xfe ∷ 0x32 ∷ 0x4f ∷ 0xa7 ∷ 0x41 ∷ 0xb7 ∷ 0x25 ∷ 0xac ∷ 0xcc ∷ 0x32 ∷ 0x85 ∷ 0xa3 ∷ 0x09 ∷ []
 
 -- ---- what they say
 

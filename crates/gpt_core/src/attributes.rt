@@ -2,6 +2,11 @@
 ghost use Rattle.std.specs.Prelude.{◌≡◌, ◌≤◌};
 ghost use Rattle.gpt_core.specs.Attributes as spec;
 
+/// The GUID of a kernel's type, fe3a2a5d-4f32-41a7-b725-accc3285a309, as a disk stores it. Source: the ChromiumOS disk format.
+pub const KERNEL_TYPE: [u8; 16] = [
+    0x5d, 0x2a, 0x3a, 0xfe, 0x32, 0x4f, 0xa7, 0x41, 0xb7, 0x25, 0xac, 0xcc, 0x32, 0x85, 0xa3, 0x09,
+];
+
 // The lowest bit of each field, as a number.
 const PRIORITY: u64 = 1 << 48;
 
@@ -13,7 +18,8 @@ const REST: u64 = 1 << 57;
 
 /// The priority of a kernel, from 0 to 15: bits 48 to 51.
 pub fn priority_of(attributes: u64) -> u64
-    ensures { result ≡ spec.priority_of attributes }
+    ensures value { result ≡ spec.priority_of attributes }
+    ensures most { result ≤ 15 }
 {
     attributes / PRIORITY % 16
 }

@@ -28,7 +28,8 @@ mod table;
 mod writing;
 
 pub use attributes::{
-    priority_of, successful_of, tries_of, with_highest, with_priority, with_successful, with_tries,
+    KERNEL_TYPE, priority_of, successful_of, tries_of, with_highest, with_priority,
+    with_successful, with_tries,
 };
 pub use committing::commit;
 pub use entry::{Entry, put_entry};

@@ -1,5 +1,5 @@
 -- No entry so far has what is looked for, or one has.
-use Rattle.std.proofs.Common.{◌≡◌, ℕ, Bool, true, false, sym, ap, subst, ◌∙◌, arith}
+use Rattle.std.proofs.Common.{◌≡◌, ℕ, true, false, sym, ap, subst, ◌∙◌, arith}
 use Rattle.std.specs.Prelude.{not}
 use Rattle.gpt_core.specs.Entries.{all_below}
 use Rattle.gpt_core.proofs.AllBelow.{all_below-none, all_below-more, all_below-false}

@@ -17,5 +17,7 @@ returns-in-Create-clause-works g c =
     subst (λ (guid : List ℕ). Works c.args.call.now guid (g.D.Disk.state c.args.disk.now) (g.D.Disk.state c.create.new.disk) (g.O.Sink.state c.args.out.now)
     (g.O.Sink.state c.create.new.out) c.create.result) c.to_bytes_le.ensures c.create.ensures
 
-pub returns-in_default-clause-settled : goal.returns-in_default-clause-settled
-returns-in_default-clause-settled g c = (c.leave.ensures (swap_fields c.args.fresh)).disk.none_pending
+pub returns-in_default-clause-works : goal.returns-in_default-clause-works
+returns-in_default-clause-works g c =
+    subst (λ (guid : List ℕ). Works c.args.call.now guid (g.D.Disk.state c.args.disk.now) (g.D.Disk.state c.edit.new.disk) (g.O.Sink.state c.args.out.now)
+    (g.O.Sink.state c.edit.new.out) c.edit.result) c.to_bytes_le-in_default.ensures c.edit.ensures

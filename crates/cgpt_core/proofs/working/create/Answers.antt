@@ -1,7 +1,6 @@
 -- The disk has too few sectors or too many, or the table was written, or its commit failed.
 use Rattle.std.proofs.Common.{◌≡◌, true, false, rules}
 use Rattle.cgpt_core.proofs.Creating.{creates_none, creates_all, creates_broken}
-use Rattle.cgpt_core.proofs.Planned.{works_unread}
 use Rattle.cgpt_core.proofs.working.create.Goals as goal
 
 pub returns-then-not-start : goal.returns-then-not-start

@@ -1,6 +1,7 @@
 -- The definitions of this crate.
 pub mod Values
 pub mod Words
+pub mod Guids
 pub mod Text
 pub mod Faults
 pub mod Adding

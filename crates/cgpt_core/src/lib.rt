@@ -5,13 +5,14 @@
 //! - `opening` reads the table of a disk, `lines` makes the lines of its text, and `putting` puts them into a sink. `finding` puts
 //!   the entries that are looked for, `adding` makes the table with one more entry, `ranking` orders its
 //!   kernels, and `saving` writes a table.
-//! - `working` works a command, and `fault` says why it did not.
+//! - `working` works a command, and `fault` says why it did not. `guid` makes the GUIDs that commands may use.
 #![tactic(auto)]
 
 mod adding;
 mod call;
 mod fault;
 mod finding;
+mod guid;
 mod lines;
 mod opening;
 mod options;
@@ -24,5 +25,6 @@ mod working;
 
 pub use call::{CgptCall, CgptCommand, Label, WordFault};
 pub use fault::CgptFault;
+pub use guid::guid_of_run;
 pub use reading::words;
 pub use working::cgpt;

@@ -27,8 +27,7 @@ status_by n =
     else if n == 14 then ended.RefusedCgpt
     else if n == 15 then ended.NoMemory
     else if n == 16 then ended.RefusedMake
-    else if n == 17 then ended.CannotOpen
-    else ended.NotBuilt
+    else ended.CannotOpen
 
 status_back : (a : Status) → status_by (exit_code a) ≡ a
 unfolding status_by
@@ -46,7 +45,6 @@ status_back ended.RefusedCgpt = refl
 status_back ended.NoMemory = refl
 status_back ended.RefusedMake = refl
 status_back ended.CannotOpen = refl
-status_back ended.NotBuilt = refl
 
 pub exit_code_tells : (a b : Status) → exit_code a ≡ exit_code b → a ≡ b
 exit_code_tells a b e = sym (status_back a) ∙ ap status_by e ∙ status_back b

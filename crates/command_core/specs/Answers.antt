@@ -61,6 +61,11 @@ abbrev pub refusal_name : CgptRefusal → List ℕ
 refusal_name refusal.BadValue = codes "BadValue"
 refusal_name refusal.NoTable = codes "NoTable"
 refusal_name refusal.NoEntry = codes "NoEntry"
+refusal_name refusal.DiskTooSmall = codes "DiskTooSmall"
+refusal_name refusal.NoFreeEntry = codes "NoFreeEntry"
+refusal_name refusal.Outside = codes "Outside"
+refusal_name refusal.Overlap = codes "Overlap"
+refusal_name refusal.DuplicateUnique = codes "DuplicateUnique"
 
 abbrev pub bad_flash_text : MapFault → List ℕ
 bad_flash_text fault = line_of (codes "bad flash " ++ decimal (map_fault_number fault))
@@ -109,7 +114,6 @@ text_of (answer.BadFlash fault) = bad_flash_text fault
 text_of (answer.WrongSize device) = line_of (codes "refused make size " ++ device_name device)
 text_of answer.HookFull = line_of (codes "refused make hook full")
 text_of (answer.RefusedCgpt why) = line_of (codes "refused cgpt " ++ refusal_name why)
-text_of answer.CgptNotBuilt = line_of (codes "not built cgpt")
 text_of answer.OutOfMemory = line_of (codes "out of memory")
 text_of (answer.Unopened (CannotOpen file)) = line_of (codes "cannot open " ++ file_name file)
 text_of (answer.Unopened Memory) = line_of (codes "out of memory")
@@ -142,7 +146,6 @@ status_of (answer.Unopened Memory) = status.NoMemory
 status_of (answer.WrongSize device) = status.RefusedMake
 status_of answer.HookFull = status.RefusedMake
 status_of (answer.Unopened (CannotOpen file)) = status.CannotOpen
-status_of answer.CgptNotBuilt = status.NotBuilt
 
 -- the number that the program exits with
 abbrev pub exit_code : Status → ℕ
@@ -160,7 +163,6 @@ exit_code status.RefusedCgpt = 14
 exit_code status.NoMemory = 15
 exit_code status.RefusedMake = 16
 exit_code status.CannotOpen = 17
-exit_code status.NotBuilt = 19
 
 -- ---- words that are refused
 

@@ -89,6 +89,15 @@ fn bytes_of(entry: &Entry) -> Bytes
 pub fn put_entry(entries: &mut [u8], k: u32, entry: &Entry)
     requires size { length entries.old ≡ 16384 }
     requires place { k < 128 }
+    ensures { entries.new ≡ with_entry entries.old k entry.now }
+{
+    put_fields(entries, k, entry);
+}
+
+// The same, and the fields have their sizes.
+pub(crate) fn put_fields(entries: &mut [u8], k: u32, entry: &Entry)
+    requires size { length entries.old ≡ 16384 }
+    requires place { k < 128 }
     ensures entries { entries.new ≡ with_entry entries.old k entry.now }
     ensures wide { IsWide entry.now }
 {

@@ -6,7 +6,7 @@ ghost use Rattle.gpt_core.specs.Format.{header_sector};
 ghost use Rattle.gpt_core.specs.Placing.{with_each, IsWide};
 ghost use Rattle.gpt_core.specs.Room.{empty_table, new_table, table_with_entry, table_with_attributes};
 
-use crate::entry::{Entry, entry_at, put_all_attributes, put_attributes, put_entry};
+use crate::entry::{Entry, entry_at, put_all_attributes, put_attributes, put_fields};
 use crate::header::{Head, header_sector};
 use crate::layout::{BACKUP_SECTORS, ENTRIES_SIZE, GUID_SIZE, LEAST_USABLE, SECTOR};
 use crate::side::Side;
@@ -141,7 +141,7 @@ impl Table {
         ensures size { length self.new.entries ≡ 16384 }
         ensures wide { IsWide entry.now }
     {
-        put_entry(self.entries.as_mut_slice(), k, entry);
+        put_fields(self.entries.as_mut_slice(), k, entry);
     }
 
     pub(crate) fn set_attributes(&mut self, k: u32, attributes: u64)

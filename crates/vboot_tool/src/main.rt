@@ -86,7 +86,11 @@ fn run_over<
 }
 
 // Runs these words over the files of the current folder. Words that are refused open none, so they are read before.
-fn run_here<R: Files + RandomSource + AllocGlobal, O: Sink>(rt: &R, words: &[String], out: &mut O) -> Status
+fn run_here<R: Files + RandomSource + AllocGlobal, O: Sink>(
+    rt: &R,
+    words: &[String],
+    out: &mut O,
+) -> Status
     ensures { StartsBy (map string_bytes words.now) (O.state out.old) (O.state out.new) result }
 {
     match command_of(rt.alloc(), words) {
@@ -96,7 +100,11 @@ fn run_here<R: Files + RandomSource + AllocGlobal, O: Sink>(rt: &R, words: &[Str
 }
 
 // Runs the words of a process, of which the first is the program's name, and ends with the status of the command.
-fn run_process<R: Files + RandomSource + AllocGlobal, O: Sink>(rt: &R, process: Args, out: &mut O) -> ExitCode
+fn run_process<R: Files + RandomSource + AllocGlobal, O: Sink>(
+    rt: &R,
+    process: Args,
+    out: &mut O,
+) -> ExitCode
     ensures { EndsBy (map string_bytes (drop 1 (into_iter_items process))) (O.state out.old) (O.state out.new) (exit_status result) }
 {
     let Ok(words) = words_after_name(rt.alloc(), process) else {

@@ -14,6 +14,7 @@ def run_guid(n=0, seed=bytes(32)):
     return uuid.UUID(bytes=bytes(b)).bytes_le
 
 class Bad(Exception): pass
+class Unknown(Exception): pass
 
 def value_of(command, option, text):
     if option in RANGES:
@@ -26,6 +27,7 @@ def value_of(command, option, text):
         if len(units) > 72: raise Bad
         return units.ljust(72, b'\0')
     if option == 't': text = {**images.KINDS, 'unused': str(uuid.UUID(bytes=UNUSED))}.get(text, text)
+    if re.fullmatch(r'urn:.*|\{.*\}|[0-9a-fA-F]{32}', text): raise Unknown
     if not GUID.fullmatch(text): raise Bad
     guid = uuid.UUID(text).bytes_le
     if guid == UNUSED and (option == 'u' or command == 'find'): raise Bad
@@ -117,5 +119,6 @@ def plan_of_words(m, words):
     command, given, drive = call
     try: given = {option: text if text is True else value_of(command, option, text) for option, text in given.items()}
     except Bad: return [], 'BadValue', None
+    except Unknown: return None
     if drive not in ('disk', 'stick'): return [], 'BadValue', None
     return table_plan(getattr(m, drive), (command, given, drive), run_guid())

@@ -13,3 +13,4 @@ pub mod Editing
 pub mod Counting
 pub mod Filled
 pub mod Ranked
+pub mod TypesRead

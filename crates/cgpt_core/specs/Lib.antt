@@ -8,3 +8,4 @@ pub mod Adding
 pub mod Ranking
 pub mod Plans
 pub mod Tables
+pub mod TypeLaw

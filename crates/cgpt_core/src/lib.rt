@@ -5,7 +5,8 @@
 //! - `opening` reads the table of a disk, `lines` makes the lines of its text, and `putting` puts them into a sink. `finding` puts
 //!   the entries that are looked for, `adding` makes the table with one more entry, `ranking` orders its
 //!   kernels, and `saving` writes a table.
-//! - `working` works a command, and `fault` says why it did not. `guid` makes the GUIDs that commands may use.
+//! - `working` works a command, and `fault` says why it did not. `guid` makes the GUIDs that commands may use, and
+//!   `laws` has a law on types.
 #![tactic(auto)]
 
 mod adding;
@@ -13,6 +14,7 @@ mod call;
 mod fault;
 mod finding;
 mod guid;
+mod laws;
 mod lines;
 mod opening;
 mod options;
@@ -26,5 +28,6 @@ mod working;
 pub use call::{CgptCall, CgptCommand, Label, WordFault};
 pub use fault::CgptFault;
 pub use guid::guid_of_run;
+pub use laws::types_read_back;
 pub use reading::words;
 pub use working::cgpt;

@@ -30,13 +30,27 @@ use uuid::Uuid;
 /// - `Find` puts the index of each used entry that has all that is given: the type, the unique GUID, the label. It writes nothing.
 /// - `Repair` writes the table where the copies do not agree, and puts `repaired`, or else `agree`.
 /// - `Create` makes an empty table with the GUID, in which all that both copies leave is usable.
+/// - `Add` works on the entry of `index`, or else on the unused one of lowest index. Of a used entry what is given changes; an
+///   unused one needs `begin`, `size` and `kind`, and has the GUID where `unique` is not given. Of the attributes `raw` is set
+///   first, and then `successful`, `tries` and `priority`. The type of all zeros makes the bytes of the entry 0.
+/// - `Prioritize` gives the kernels of a priority over 0 new ones: the entry of `index`, with `friends` all of its priority, is
+///   a group of its own at the top, and the groups of equal priority below it keep their order. The top has `priority`, or else
+///   as many as there are groups, 15 at most, and each group one less than the one above it, but none under 1.
 ///
-/// `DiskTooSmall`: exactly where `Create` is given a disk of under 69 or over 4,294,967,296 sectors. `NoTable`: exactly where
-/// neither copy is good, for all other commands. `NoEntry`: exactly where `Find` finds none. After these nothing is changed or
-/// put, and each of them yields to a disk that failed. `Device`: the disk failed, and counted it; after a commit that failed its
-/// table is the one that it was or the planned one, where what is left is fair, and a table that differs stands only where the
-/// disk counted a failed change. `Write`: the sink failed, and counted it; a beginning of the lines was put, and the disk is as
-/// planned. `NotBuilt`: all other commands, which change and put nothing.
+/// Source: the manual page cgpt(1) of ChromiumOS.
+///
+/// After each of these nothing is changed or put, and each yields to a disk that failed. `DiskTooSmall`: exactly where `Create`
+/// is given a disk of under 69 or over 4,294,967,296 sectors. `NoTable`: exactly where neither copy is good, for all other
+/// commands. `BadValue`: of `Add` and `Prioritize`, where a value is out of its range, which none is that `words` read; where an
+/// unused entry lacks what it needs; where an entry is to be made unused and no index is given; where the entry of `Prioritize`
+/// is no kernel. `NoFreeEntry`: no index is given and all entries are used. `NoEntry`: the entry is unused that is to be made
+/// unused or to be moved, or `Find` finds none. `Outside`, `Overlap`, `DuplicateUnique`: the first of these that holds of an
+/// entry that is put: it has no sector or one outside the usable ones, it shares one with another used entry, or another used
+/// entry has its unique GUID.
+///
+/// `Device`: the disk failed, and counted it; after a commit that failed its table is the one that it was or the planned one,
+/// where what is left is fair, and a table that differs stands only where the disk counted a failed change. `Write`: the sink
+/// failed, and counted it; a beginning of the lines was put, and the disk is as planned.
 pub fn cgpt<D: Disk, O: Sink>(
     disk: &mut D,
     room: &mut GptRoom,

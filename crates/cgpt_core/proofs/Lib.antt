@@ -14,3 +14,4 @@ pub mod Counting
 pub mod Filled
 pub mod Ranked
 pub mod TypesRead
+pub mod WorkedRows

@@ -93,7 +93,7 @@ pub fn run_on(
         hook,
         map_at: 0,
     };
-    let status = run(alloc, words, &SEED, &mut board, &mut out).code();
+    let status = run(alloc, words, SEED, &mut board, &mut out).code();
     let rows = board.hook.rows().to_vec(alloc)?;
     let mut after = machine_of(alloc, &mut board.flash, &mut board.tpm, rows)?;
     after.disk = DriveImage::of(alloc, &mut board.disk)?;

@@ -17,20 +17,21 @@ use cgpt_core::guid_of_run;
 use std::alloc::Global;
 
 /// Works the command that these words name, which follow the program's name, on a board on whose disks nothing is pending,
-/// prints its answer, and answers the exit status. The GUID that a command may use is made of the seed. Words that are refused leave the board as it is.
+/// prints its answer, and answers the exit status. The GUID that a command may use is made of the seed. Words that are refused
+/// leave the board as it is.
 pub fn run<F: Flash, T: Tpm, D: Disk, E: Disk, H: Hook, O: Sink>(
     alloc: Global,
     words: &[String],
-    seed: &[u8; 32],
+    seed: [u8; 32],
     p: &mut Platform<F, T, D, E, H>,
     out: &mut O,
 ) -> Status
     requires { IsSettled (world F.state T.state H.state p.old) }
-    ensures { Runs (map string_bytes words.now) seed.now (world F.state T.state H.state p.old) (world F.state T.state H.state p.new)
+    ensures { Runs (map string_bytes words.now) seed (world F.state T.state H.state p.old) (world F.state T.state H.state p.new)
         (O.state out.old) (O.state out.new) result }
 {
     match command_of(alloc, words) {
-        Ok(command) => run_command(alloc, command, seed, p, out),
+        Ok(command) => run_command(alloc, command, &seed, p, out),
         Err(fault) => print(out, &Answer::of_words(fault)),
     }
 }

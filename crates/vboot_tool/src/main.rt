@@ -68,7 +68,7 @@ fn run_over<
 >(
     alloc: Global,
     words: &[String],
-    seed: &[u8; 32],
+    seed: [u8; 32],
     opened: Result<Platform<F, T, D, E, H>, OpenFault>,
     out: &mut O,
 ) -> Status
@@ -94,7 +94,7 @@ fn run_here<R: Files + RandomSource + AllocGlobal, O: Sink>(
     ensures { StartsBy (map string_bytes words.now) (O.state out.old) (O.state out.new) result }
 {
     match command_of(rt.alloc(), words) {
-        Ok(_) => run_over(rt.alloc(), words, &seed(rt), open_board(rt), out),
+        Ok(_) => run_over(rt.alloc(), words, seed(rt), open_board(rt), out),
         Err(fault) => print(out, &Answer::of_words(fault)),
     }
 }

@@ -27,21 +27,23 @@ def machine_lines(before, after):
     return lines + ([f'  rows {len(before.rows)} {len(after.rows)}'] if len(before.rows) != len(after.rows) else [])
 
 # Calls of devices fail here in lines `each` on tables of drives and on `make` alone.
-# The calls of a drive that `cgpt show` and `cgpt repair` make: None for each of both reads, then the sectors that are written, as
+# The calls of a drive that a command on its table makes: None for each of both reads, then the sectors that are written, as
 # (first, count), and (0, 0) for a flush.
-def table_calls(verb, disk):
-    table, source, agree = read_table(disk)
+def table_calls(m, words, drive):
+    disk = getattr(m, drive)
+    table, source, _ = read_table(disk)
     calls = [None, None] if 69 <= len(disk) // 512 <= 4294967296 else []
-    if verb == 'show' or not table or agree: return calls
-    for head, at in copies(disk)[::-1 if source == 'primary' else 1]: calls += [(at, 32), (head, 1), (0, 0)]
+    plan = plan_of_words(m, words[1:])
+    if words[1] == 'show' or plan[2] is None: return calls
+    for head, at in copies(disk)[::-1 if table and source == 'primary' else 1]: calls += [(at, 32), (head, 1), (0, 0)]
     return calls
 
 # Each of these calls fails once: what is pending then is old, new or zero afterwards.
 def each_table_call(m, words):
-    verb, drive = words[1:]
+    drive = words[-1]
     disk, lines = getattr(m, drive), []
-    calls = table_calls(verb, disk)
-    after = with_table(disk, read_table(disk)[0]) if len(calls) > 2 else disk
+    calls = table_calls(m, words, drive)
+    after = getattr(run_words(m, words)[2], drive)
     for remains in ('old', 'new', 'zeros'):
         state, pending = disk, []
         for number, call in enumerate(calls, 1):
@@ -84,7 +86,7 @@ class Bench:
         if not text or text.startswith('#'): return
         self.out.append(text)
         verb, *words = text.split() or ['']
-        if verb == 'each' and words and words[0] in ('disk', 'stick') and words[1:] in (['cgpt', 'show', words[0]], ['cgpt', 'repair', words[0]]):
+        if verb == 'each' and words and words[0] in ('disk', 'stick') and words[1:2] == ['cgpt'] and words[-1] == words[0] and call_of(words[2:]):
             self.out += each_table_call(self.m, words[1:])
         elif verb == 'each' and re.fullmatch(r'(tpm|hook) make \d+', ' '.join(words)) and not isinstance(made(self.m, int(words[2])), str):
             self.out += each_make_call(self.m, words[0], words[1:])

@@ -10,6 +10,7 @@
 #   cases.py expected forms    the transcript that these are to come to
 #   cases.py crossings         lines on crossystem and migrate, and with `expected` or `failing` as of forms
 #   cases.py sgdisk            lines on tables that sgdisk wrote, changed ones, and on repairs and `make` that are stopped
+#   cases.py tables            lines on the commands that change a table or look for entries
 #   cases.py check FILE        what a transcript of the bench has that the model has otherwise, and which laws on failing
 #                                   calls it breaks
 import sys
@@ -17,6 +18,7 @@ from compare import *
 from crossings import *
 from failing import *
 from sgdisk_tables import *
+from table_cases import *
 from whole_boots import *
 
 if __name__ == '__main__':
@@ -30,9 +32,10 @@ if __name__ == '__main__':
     elif [verb, *words] == ['failing', 'forms']: print(*failing_forms().lines, sep='\n')
     elif verb == 'failing' and words in ([], ['plain']): print(*(plain(failing().lines) if words else failing()).lines, sep='\n')
     elif (verb, words) == ('sgdisk', []): print(*sgdisk_tables().lines, sep='\n')
+    elif (verb, words) == ('tables', []): print(*table_cases().lines, sep='\n')
     elif verb == 'expected' and len(words) == 1:
         bench = Bench()
         for line in open(words[0]).read().split('\n'): bench.line(line)
         print(*bench.out, sep='\n')
     elif verb == 'check' and len(words) == 1: sys.exit(not check(open(words[0]).read().split('\n')))
-    else: sys.exit('usage: cases.py cases [plain], forms, crossings, sgdisk, expected [plain, forms, crossings or FILE], failing [plain, forms or crossings], check FILE')
+    else: sys.exit('usage: cases.py cases [plain], forms, crossings, sgdisk, tables, expected [plain, forms, crossings or FILE], failing [plain, forms or crossings], check FILE')

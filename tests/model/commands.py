@@ -1,6 +1,7 @@
 # What each command prints, its status, and the machine after it.
 import functools
 from crossing import *
+from tables import *
 
 def boot_switches(words): # None where they are no words of a boot
     switches = {}
@@ -89,8 +90,11 @@ def run_words(m, words):
     if words[0] in ('make', 'futility', 'migrate'): return ['usage'], 1, m
     if words[0] == 'crossystem': return crossystem(m, words[1:])
     if words[:2] == ['cgpt', 'show'] and words[2:] in (['disk'], ['stick']): return *table_text(words[2], getattr(m, words[2])), m
-    if words[:2] == ['cgpt', 'repair'] and words[2:] in (['disk'], ['stick']):
-        table, _, agree = read_table(getattr(m, words[2]))
-        if not table: return ['refused cgpt NoTable'], 14, m
-        return (['agree'], 0, m) if agree else (['repaired'], 0, m.copy(**{words[2]: with_table(getattr(m, words[2]), table)}))
+    if words[0] == 'cgpt':
+        plan = plan_of_words(m, words[1:])
+        if plan is None: return None
+        lines, why, table = plan
+        if why: return [f'refused cgpt {why}'], 14, m
+        drive = call_of(words[1:])[2]
+        return lines, 0, m if table is None else m.copy(**{drive: with_table(getattr(m, drive), table)})
     return None

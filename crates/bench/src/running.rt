@@ -63,6 +63,9 @@ fn space_of<T: Tpm>(tpm: &mut T, space: Space) -> SpaceImage {
     }
 }
 
+// The seed of each run: so its GUIDs are known.
+const SEED: [u8; 32] = [0; 32];
+
 /// Runs these words on a machine, where a call of a device is to fail or none is.
 pub fn run_on(
     alloc: Global,
@@ -90,7 +93,7 @@ pub fn run_on(
         hook,
         map_at: 0,
     };
-    let status = run(alloc, words, &mut board, &mut out).code();
+    let status = run(alloc, words, SEED, &mut board, &mut out).code();
     let rows = board.hook.rows().to_vec(alloc)?;
     let mut after = machine_of(alloc, &mut board.flash, &mut board.tpm, rows)?;
     after.disk = DriveImage::of(alloc, &mut board.disk)?;

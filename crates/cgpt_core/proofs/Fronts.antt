@@ -6,8 +6,8 @@ use Rattle.board_core.specs.Streams.{StreamState, Puts, PutsText}
 use Rattle.board_core.specs.declared.device.Failed.{Failed}
 use Rattle.gpt_core.specs.declared.entry.Entry.{Entry}
 use Rattle.gpt_core.specs.Entries.{is_used, entry_in}
-use Rattle.cgpt_core.specs.Text.{entry_lines, entry_line, part_line}
 use Rattle.board_core.proofs.TextsPut.{puts_call, puts_none, puts_then, puts_more}
+use Rattle.cgpt_core.specs.Text.{lines_below, entry_line, part_line}
 
 -- words and a number behind a text that begins with this one
 one_more : (t X w d : List ℕ) → ((t ++ X) ++ w) ++ d ≡ t ++ ((X ++ w) ++ d)
@@ -22,42 +22,42 @@ three_more t t1 t2 t3 w1 d1 w2 d2 w3 d3 one two three =
 
 -- ---- the lines of the entries
 
-entries_next : (k : ℕ) (entries : List ℕ) → entry_lines (k + 1) entries ≡ entry_lines k entries ++ entry_line entries k
-unfolding entry_lines
-entries_next k entries =
+lines_next : (k : ℕ) (line : ℕ → List ℕ) → lines_below (k + 1) line ≡ lines_below k line ++ line k
+unfolding lines_below
+lines_next k line =
     let next : k + 1 ≡ suc k = omega arith in
-    ap (λ (n : ℕ). entry_lines n entries) next
+    ap (λ (n : ℕ). lines_below n line) next
 
-entries_front : (k more : ℕ) (entries : List ℕ) → (rest : List ℕ) × (entry_lines (more + k) entries ≡ entry_lines k entries ++ rest)
-entries_front k zero entries =
+lines_front : (k more : ℕ) (line : ℕ → List ℕ) → (rest : List ℕ) × (lines_below (more + k) line ≡ lines_below k line ++ rest)
+lines_front k zero line =
     let none : 0 + k ≡ k = omega arith in
-    ([], ap (λ (n : ℕ). entry_lines n entries) none ∙ sym (append-nil (entry_lines k entries)))
-entries_front k (suc more) entries =
+    ([], ap (λ (n : ℕ). lines_below n line) none ∙ sym (append-nil (lines_below k line)))
+lines_front k (suc more) line =
     let next : suc more + k ≡ (more + k) + 1 = omega arith in
-    let before = entries_front k more entries in (
-      before.0 ++ entry_line entries (more + k),
-      ap (λ (n : ℕ). entry_lines n entries) next ∙ entries_next (more + k) entries
-          ∙ ap (λ (x : List ℕ). x ++ entry_line entries (more + k)) before.1 ∙ append_assoc (entry_lines k entries) before.0 (entry_line entries (more + k)),
+    let before = lines_front k more line in (
+      before.0 ++ line (more + k),
+      ap (λ (n : ℕ). lines_below n line) next ∙ lines_next (more + k) line
+          ∙ ap (λ (x : List ℕ). x ++ line (more + k)) before.1 ∙ append_assoc (lines_below k line) before.0 (line (more + k)),
     )
 
-pub no_entries_put : {E : Type 0} (entries : List ℕ) (state : StreamState) → PutsText {E = E} (entry_lines 0 entries) state state (Ok tt)
-unfolding entry_lines
-no_entries_put entries state = puts_none state
+pub no_lines_put : {E : Type 0} (line : ℕ → List ℕ) (state : StreamState) → PutsText {E = E} (lines_below 0 line) state state (Ok tt)
+unfolding lines_below
+no_lines_put line state = puts_none state
 
 -- one more
-pub entry_put : {D E : Type 0} (k : ℕ) (entries : List ℕ) (old mid new : StreamState) (result : Result Unit E) → PutsText {E = D} (entry_lines k entries) old mid (Ok tt)
-    → PutsText (entry_line entries k) mid new result → PutsText (entry_lines (k + 1) entries) old new result
-entry_put k entries old mid new result h put =
-    subst (λ (x : List ℕ). PutsText x old new result) (sym (entries_next k entries)) (puts_then (entry_lines k entries) (entry_line entries k) old mid new result h put)
+pub line_more : {D E : Type 0} (k : ℕ) (line : ℕ → List ℕ) (old mid new : StreamState) (result : Result Unit E) → PutsText {E = D} (lines_below k line) old mid (Ok tt)
+    → PutsText (line k) mid new result → PutsText (lines_below (k + 1) line) old new result
+line_more k line old mid new result h put =
+    subst (λ (x : List ℕ). PutsText x old new result) (sym (lines_next k line)) (puts_then (lines_below k line) (line k) old mid new result h put)
 
 -- one that failed
-pub entry_failed : {D E : Type 0} (k : ℕ) (entries : List ℕ) (old mid new : StreamState) (failed : E) → k < 128 → PutsText {E = D} (entry_lines k entries) old mid (Ok tt)
-    → PutsText {E = E} (entry_line entries k) mid new (Err failed) → PutsText {E = E} (entry_lines 128 entries) old new (Err failed)
-entry_failed k entries old mid new failed below h put =
+pub line_failed : {D E : Type 0} (k : ℕ) (line : ℕ → List ℕ) (old mid new : StreamState) (failed : E) → k < 128 → PutsText {E = D} (lines_below k line) old mid (Ok tt)
+    → PutsText {E = E} (line k) mid new (Err failed) → PutsText {E = E} (lines_below 128 line) old new (Err failed)
+line_failed k line old mid new failed below h put =
     let whole : 128 ≡ (127 - k) + (k + 1) = omega (arith, below) in
-    let front = entries_front (k + 1) (127 - k) entries in
-    puts_more (entry_lines (k + 1) entries) (entry_lines 128 entries) front.0 old new failed
-    (ap (λ (n : ℕ). entry_lines n entries) whole ∙ front.1) (entry_put k entries old mid new (Err failed) h put)
+    let front = lines_front (k + 1) (127 - k) line in
+    puts_more (lines_below (k + 1) line) (lines_below 128 line) front.0 old new failed
+    (ap (λ (n : ℕ). lines_below n line) whole ∙ front.1) (line_more k line old mid new (Err failed) h put)
 
 -- ---- the whole text
 

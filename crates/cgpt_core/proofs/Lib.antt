@@ -2,6 +2,16 @@ pub mod CallsRead
 pub mod Fronts
 pub mod Openings
 pub mod Telling
-pub mod Repairing
+pub mod Planned
+pub mod Commands
 pub mod MoreOptions
 pub mod ValuesRead
+pub mod Changes
+pub mod Creating
+pub mod FirstBelow
+pub mod Editing
+pub mod Counting
+pub mod Filled
+pub mod Ranked
+pub mod TypesRead
+pub mod WorkedRows

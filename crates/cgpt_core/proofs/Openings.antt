@@ -12,7 +12,7 @@ use Rattle.gpt_core.specs.Entries.{is_used, entry_in}
 use Rattle.gpt_core.specs.Format.{PartitionTable, IsValidTable}
 use Rattle.gpt_core.specs.Room.{RoomView, ReadsTable, IsFoundOn}
 use Rattle.gpt_core.specs.Tables.{IsGood}
-use Rattle.gpt_core.proofs.FoundTables.{table_there, none_there, used_says}
+use Rattle.gpt_core.proofs.FoundTables.{table_there, used_says}
 use Rattle.gpt_core.proofs.UsedEntries.{used_between}
 use Rattle.gpt_core.proofs.Sources.{valid_size}
 use Rattle.cgpt_core.specs.Tables.{IsOpened, Opens, opened_of}
@@ -55,6 +55,7 @@ opens_by old new room (found.Primary agree) reads =
       holds = record { is = reads.holds; known = omega (arith, valid_size room.sectors room.table whole.1); valid = whole.1 };
       found = λ told. primary_opened agree old.medium.sectors old.medium.bytes room.table (reads.found told);
       none = λ told. tt;
+      empty = tt;
     }
 opens_by old new room found.Backup reads =
     let whole = holds_found old room _ old.medium.sectors reads.holds refl reads.fits in
@@ -65,6 +66,7 @@ opens_by old new room found.Backup reads =
       holds = record { is = reads.holds; known = omega (arith, valid_size room.sectors room.table whole.1); valid = whole.1 };
       found = λ told. backup_opened old.medium.sectors old.medium.bytes room.table (reads.found told);
       none = λ told. tt;
+      empty = tt;
     }
 opens_by old new room found.None reads = record {
   counters = reads.counters;
@@ -72,8 +74,8 @@ opens_by old new room found.None reads = record {
   no_fewer = reads.no_fewer;
   holds = tt;
   found = λ told. tt;
-  none = λ told.
-      none_there old.medium.sectors old.medium.bytes room.table (reads.found told);
+  none = λ told. reads.found told;
+  empty = reads.holds;
 }
 
 -- where a used entry lies

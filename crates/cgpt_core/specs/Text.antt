@@ -1,6 +1,6 @@
 -- The text of a partition table: a line for the drive, one for the GUID of the disk, one for the usable sectors, and one for each
 -- used entry. The form of the lines is this project's own; what is shown is what `cgpt show` of ChromiumOS shows.
-use Rattle.std.specs.Prelude.{ℕ, zero, suc, ◌+◌, ◌-◌, ◌/◌, ◌%◌, ◌^◌, nat_le, ◌&&◌, ◌==◌, Bool, true, false, if◌then◌else◌, List, [], ◌∷◌, ◌++◌, map, codes, decimal}
+use Rattle.std.specs.Prelude.{ℕ, zero, suc, ◌+◌, ◌-◌, nat_le, ◌&&◌, ◌==◌, Bool, true, false, if◌then◌else◌, List, [], ◌∷◌, ◌++◌, map, codes, decimal}
 use Rattle.std.specs.List.{before_first}
 use Rattle.std.specs.Str.{bytes_eq}
 use Rattle.text_core.specs.Shown.{line_end}
@@ -9,6 +9,7 @@ use Rattle.uuid.specs.Parts.{swap_fields}
 use Rattle.gpt_core.specs.declared.entry.Entry.{Entry}
 use Rattle.gpt_core.specs.declared.side.Side.{Side}
 use Rattle.gpt_core.specs.declared.side.Side.TheVariants.{Primary, Backup}
+use Rattle.gpt_core.specs.Attributes.{priority_of, tries_of, successful_of}
 use Rattle.gpt_core.specs.Entries.{is_used, entry_in}
 use Rattle.gpt_core.specs.Format.{PartitionTable}
 use Rattle.board_core.specs.declared.device.Drive.{Drive}
@@ -39,17 +40,6 @@ type_name text =
 -- a type is shown by its name, or by its GUID where it has none
 abbrev pub type_text : List ℕ → List ℕ
 type_text kind = type_name (guid_text kind)
-
--- ---- attributes: bits 48 to 51 are the priority, 52 to 55 the tries, and 56 says that the kernel was successful
-
-abbrev pub priority_of : ℕ → ℕ
-priority_of attributes = attributes / 2 ^ 48 % 16
-
-abbrev pub tries_of : ℕ → ℕ
-tries_of attributes = attributes / 2 ^ 52 % 16
-
-abbrev pub successful_of : ℕ → ℕ
-successful_of attributes = attributes / 2 ^ 56 % 2
 
 -- ---- names
 
@@ -109,14 +99,14 @@ part_line index entry =
 abbrev pub entry_line : List ℕ → ℕ → List ℕ
 entry_line entries k = if is_used entries k then part_line (k + 1) (entry_in entries k) else []
 
--- the lines of the first so many entries
-unfoldable pub entry_lines : ℕ → List ℕ → List ℕ
-entry_lines zero entries = []
-entry_lines (suc k) entries = entry_lines k entries ++ entry_line entries k
+-- the lines of the first so many entries, by the line of each
+unfoldable pub lines_below : ℕ → (ℕ → List ℕ) → List ℕ
+lines_below zero line = []
+lines_below (suc k) line = lines_below k line ++ line k
 
 unfoldable pub head_lines : Drive → (sectors : ℕ) → Side → (agree : Bool) → PartitionTable → List ℕ
 head_lines drive sectors side agree table =
     drive_line drive sectors side agree ++ guid_line table.guid ++ usable_line table.first_usable table.last_usable
 
 abbrev pub table_text : Drive → (sectors : ℕ) → Side → (agree : Bool) → PartitionTable → List ℕ
-table_text drive sectors side agree table = head_lines drive sectors side agree table ++ entry_lines 128 table.entries
+table_text drive sectors side agree table = head_lines drive sectors side agree table ++ lines_below 128 (entry_line table.entries)

@@ -4,16 +4,9 @@ ghost use Rattle.std.specs.List.{before_first};
 ghost use Rattle.cgpt_core.specs.Text as spec;
 
 use board_core::Drive;
-use gpt_core::{Entry, GptRoom, Side};
+use gpt_core::{Entry, GptRoom, Side, priority_of, successful_of, tries_of};
 use text_core::Text;
 use uuid::Uuid;
-
-// The lowest bits of the fields of a kernel's attributes.
-const PRIORITY: u64 = 1 << 48;
-
-const TRIES: u64 = 1 << 52;
-
-const SUCCESSFUL: u64 = 1 << 56;
 
 // The lines before those of the entries.
 #[tactic(auto, unfolding(crate::specs::Text::head_lines))]
@@ -102,24 +95,6 @@ fn push_kernel(text: &mut Text, priority: u64, tries: u64, successful: u64)
     push_number(text, b" priority ", priority);
     push_number(text, b" tries ", tries);
     push_number(text, b" successful ", successful);
-}
-
-fn priority_of(attributes: u64) -> u64
-    ensures { result ≡ spec.priority_of attributes }
-{
-    attributes / PRIORITY % 16
-}
-
-fn tries_of(attributes: u64) -> u64
-    ensures { result ≡ spec.tries_of attributes }
-{
-    attributes / TRIES % 16
-}
-
-fn successful_of(attributes: u64) -> u64
-    ensures { result ≡ spec.successful_of attributes }
-{
-    attributes / SUCCESSFUL % 2
 }
 
 // ---- names of entries

@@ -2,7 +2,7 @@
 ghost use Rattle.std.specs.Prelude.{◌≡◌, ◌+◌, ◌<◌, ◌≤◌, ◌^◌, true, false, IfSome, IfNone};
 ghost use Rattle.gpt_core.specs.Entries.{is_used, entry_in};
 ghost use Rattle.gpt_core.specs.Format.{IsValidTable};
-ghost use Rattle.cgpt_core.specs.Text.{table_text, entry_lines, entry_line};
+ghost use Rattle.cgpt_core.specs.Text.{table_text, lines_below, entry_line};
 ghost use Rattle.board_core.specs.Streams.{PutsText};
 
 use crate::lines::{text_of_head, text_of_part};
@@ -31,7 +31,7 @@ pub(crate) fn put_table<O: Sink>(
 fn put_parts<O: Sink>(out: &mut O, room: &GptRoom) -> Result<(), Failed>
     requires known { 1 ≤ room.now.sectors }
     requires valid { IsValidTable room.now.sectors room.now.table }
-    ensures { PutsText (entry_lines 128 room.now.table.entries) (O.state out.old) (O.state out.new) result }
+    ensures { PutsText (lines_below 128 (entry_line room.now.table.entries)) (O.state out.old) (O.state out.new) result }
 {
     for k in 0..128 {
         put_part(out, room, k)?;
@@ -54,7 +54,7 @@ fn put_part<O: Sink>(out: &mut O, room: &GptRoom, k: u32) -> Result<(), Failed>
 }
 
 // Entry `k`, from 0, where it is used.
-fn used_entry(room: &GptRoom, k: u32) -> Option<Entry>
+pub(crate) fn used_entry(room: &GptRoom, k: u32) -> Option<Entry>
     requires known { 1 ≤ room.now.sectors }
     requires valid { IsValidTable room.now.sectors room.now.table }
     requires place { k < 128 }

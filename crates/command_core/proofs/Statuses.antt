@@ -30,7 +30,6 @@ status_by n =
     else if n == 15 then ended.NoMemory
     else if n == 16 then ended.RefusedMake
     else if n == 17 then ended.CannotOpen
-    else if n == 19 then ended.NotBuilt
     else ended.RefusedMigrate
 
 status_back : (a : Status) → status_by (exit_code a) ≡ a
@@ -51,7 +50,6 @@ status_back ended.RefusedCgpt = refl
 status_back ended.NoMemory = refl
 status_back ended.RefusedMake = refl
 status_back ended.CannotOpen = refl
-status_back ended.NotBuilt = refl
 status_back ended.RefusedMigrate = refl
 
 pub exit_code_tells : (a b : Status) → exit_code a ≡ exit_code b → a ≡ b

@@ -64,6 +64,11 @@ abbrev pub refusal_name : CgptRefusal → List ℕ
 refusal_name refusal.BadValue = codes "BadValue"
 refusal_name refusal.NoTable = codes "NoTable"
 refusal_name refusal.NoEntry = codes "NoEntry"
+refusal_name refusal.DiskTooSmall = codes "DiskTooSmall"
+refusal_name refusal.NoFreeEntry = codes "NoFreeEntry"
+refusal_name refusal.Outside = codes "Outside"
+refusal_name refusal.Overlap = codes "Overlap"
+refusal_name refusal.DuplicateUnique = codes "DuplicateUnique"
 
 -- why a word of the crossystem tool was refused
 abbrev pub code_name : CrossCode → List ℕ
@@ -118,7 +123,6 @@ text_of (answer.BadFlash fault) = bad_flash_text fault
 text_of (answer.WrongSize device) = line_of (codes "refused make size " ++ device_name device)
 text_of answer.HookFull = line_of (codes "refused make hook full")
 text_of (answer.RefusedCgpt why) = line_of (codes "refused cgpt " ++ refusal_name why)
-text_of answer.CgptNotBuilt = line_of (codes "not built cgpt")
 text_of (answer.RefusedWord word why) = line_of (codes "refused word " ++ decimal word ++ codes " " ++ code_name why)
 text_of (answer.Differs word) = line_of (codes "differs word " ++ decimal word)
 text_of answer.Migrated = line_of (codes "migrated")
@@ -156,7 +160,6 @@ status_of (answer.Unopened Memory) = status.NoMemory
 status_of (answer.WrongSize device) = status.RefusedMake
 status_of answer.HookFull = status.RefusedMake
 status_of (answer.Unopened (CannotOpen file)) = status.CannotOpen
-status_of answer.CgptNotBuilt = status.NotBuilt
 status_of (answer.RefusedWord word why) = status.RefusedWord
 status_of (answer.Differs word) = status.Differs
 status_of answer.Migrated = status.Done
@@ -181,7 +184,6 @@ exit_code status.RefusedCgpt = 14
 exit_code status.NoMemory = 15
 exit_code status.RefusedMake = 16
 exit_code status.CannotOpen = 17
-exit_code status.NotBuilt = 19
 exit_code status.RefusedMigrate = 20
 
 -- ---- words that are refused

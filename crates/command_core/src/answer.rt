@@ -16,12 +16,22 @@ use text_core::Text;
 /// Why a command on a partition table was refused.
 #[derive(Clone, Copy, Debug, PartialEq, Eq)]
 pub enum CgptRefusal {
-    /// A value is out of its range.
+    /// A value is wanting or out of its range.
     BadValue,
     /// Neither copy of the table is good.
     NoTable,
-    /// There is no entry of that index, or it is unused.
+    /// There is no entry of that index, or it is unused, or none is found.
     NoEntry,
+    /// The drive is too small for a table, or too large.
+    DiskTooSmall,
+    /// All entries are used.
+    NoFreeEntry,
+    /// The entry has no sector, or one outside the usable ones.
+    Outside,
+    /// The entry would share a sector with another one.
+    Overlap,
+    /// Another entry has the unique GUID.
+    DuplicateUnique,
 }
 
 /// What a command came to, before it is printed.
@@ -43,8 +53,6 @@ pub enum Answer {
     HookFull,
     /// A command on a partition table was refused.
     RefusedCgpt(CgptRefusal),
-    /// A command on a partition table that does not stand yet.
-    CgptNotBuilt,
     /// A word of the crossystem tool was refused.
     RefusedWord {
         /// Its number, from 1.
@@ -104,8 +112,6 @@ pub enum Status {
     RefusedMake,
     /// A file of the board was not opened.
     CannotOpen,
-    /// The command does not stand yet.
-    NotBuilt,
     /// The kernel space of the TPM was not brought into its newer form.
     RefusedMigrate,
 }
@@ -132,7 +138,6 @@ impl Status {
             Status::NoMemory => 15,
             Status::RefusedMake => 16,
             Status::CannotOpen => 17,
-            Status::NotBuilt => 19,
             Status::RefusedMigrate => 20,
         }
     }
@@ -154,12 +159,17 @@ fn name_of(device: Device) -> &'static [u8]
 
 fn name_of_refusal(refusal: CgptRefusal) -> &'static [u8]
     ensures name { result.now ≡ refusal_name refusal }
-    ensures short { length result.now ≤ 8 }
+    ensures short { length result.now ≤ 15 }
 {
     match refusal {
         CgptRefusal::BadValue => b"BadValue",
         CgptRefusal::NoTable => b"NoTable",
         CgptRefusal::NoEntry => b"NoEntry",
+        CgptRefusal::DiskTooSmall => b"DiskTooSmall",
+        CgptRefusal::NoFreeEntry => b"NoFreeEntry",
+        CgptRefusal::Outside => b"Outside",
+        CgptRefusal::Overlap => b"Overlap",
+        CgptRefusal::DuplicateUnique => b"DuplicateUnique",
     }
 }
 
@@ -223,7 +233,6 @@ impl Answer {
             Answer::OutOfMemory | Answer::Unopened(OpenFault::Memory) => Status::NoMemory,
             Answer::WrongSize(_) | Answer::HookFull => Status::RefusedMake,
             Answer::Unopened(OpenFault::CannotOpen(_)) => Status::CannotOpen,
-            Answer::CgptNotBuilt => Status::NotBuilt,
             Answer::RefusedWord { .. } => Status::RefusedWord,
             Answer::Differs { .. } => Status::Differs,
             Answer::Migrated | Answer::AlreadyMigrated => Status::Done,
@@ -244,7 +253,6 @@ impl Answer {
             Answer::WrongSize(device) => named(b"refused make size ", name_of(*device)),
             Answer::HookFull => line(b"refused make hook full"),
             Answer::RefusedCgpt(refusal) => named(b"refused cgpt ", name_of_refusal(*refusal)),
-            Answer::CgptNotBuilt => line(b"not built cgpt"),
             Answer::RefusedWord { word, code } => refused_word_text(*word, *code),
             Answer::Differs { word } => numbered(b"differs word ", *word),
             Answer::Migrated => line(b"migrated"),

@@ -15,22 +15,25 @@ use crate::partitions::run_cgpt;
 use crate::printing::print;
 use crate::showing::run_show;
 use board_core::{Disk, Flash, Hook, Platform, Sink, Tpm};
+use cgpt_core::guid_of_run;
 use std::alloc::Global;
 
 /// Works the command that these words name, which follow the program's name, on a board on whose disks nothing is pending,
-/// prints its answer, and answers the exit status. Words that are refused leave the board as it is.
+/// prints its answer, and answers the exit status. The GUID that a command may use is made of the seed. Words that are refused
+/// leave the board as it is.
 pub fn run<F: Flash, T: Tpm, D: Disk, E: Disk, H: Hook, O: Sink>(
     alloc: Global,
     words: &[String],
+    seed: [u8; 32],
     p: &mut Platform<F, T, D, E, H>,
     out: &mut O,
 ) -> Status
     requires { IsSettled (world F.state T.state H.state p.old) }
-    ensures { Runs (map string_bytes words.now) (world F.state T.state H.state p.old) (world F.state T.state H.state p.new)
+    ensures { Runs (map string_bytes words.now) seed (world F.state T.state H.state p.old) (world F.state T.state H.state p.new)
         (O.state out.old) (O.state out.new) result }
 {
     match command_of(alloc, words) {
-        Ok(command) => run_command(alloc, words, command, p, out),
+        Ok(command) => run_command(alloc, words, command, &seed, p, out),
         Err(fault) => print(out, &Answer::of_words(fault)),
     }
 }
@@ -40,11 +43,12 @@ fn run_command<F: Flash, T: Tpm, D: Disk, E: Disk, H: Hook, O: Sink>(
     alloc: Global,
     words: &[String],
     command: Command,
+    seed: &[u8; 32],
     p: &mut Platform<F, T, D, E, H>,
     out: &mut O,
 ) -> Status
     requires { IsSettled (world F.state T.state H.state p.old) }
-    ensures { RunsBy (map string_bytes words.now) (Ok command) (world F.state T.state H.state p.old) (world F.state T.state H.state p.new) (O.state out.old)
+    ensures { RunsBy (map string_bytes words.now) seed.now (Ok command) (world F.state T.state H.state p.old) (world F.state T.state H.state p.new) (O.state out.old)
         (O.state out.new) result }
 {
     match command {
@@ -54,7 +58,7 @@ fn run_command<F: Flash, T: Tpm, D: Disk, E: Disk, H: Hook, O: Sink>(
         Command::ShowPartition { drive, index } => {
             run_show_partition(alloc, p, drive, index, out)
         }
-        Command::Cgpt(call) => run_cgpt(alloc, p, &call, out),
+        Command::Cgpt(call) => run_cgpt(alloc, p, &call, guid_of_run(seed, 0), out),
         Command::Crossystem => run_crossystem(p, words_behind(words), out),
         Command::Migrate => run_migrate(p, out),
     }

@@ -19,3 +19,6 @@ pub mod TableRows
 pub mod CommitSteps
 pub mod SettledReads
 pub mod FoundTables
+pub mod SameTables
+pub mod Placed
+pub mod EachAttributes

@@ -7,16 +7,16 @@ use Rattle.std.proofs.lemmas.Slice.Eq.{bytes_eq-Decides}
 use Rattle.gpt_core.specs.Entries.{kind_in, unique_in, first_in, last_in, all_below, is_used, lies_within, have_one_guid, share_none, are_apart, entry_fits, pair_fits, fits_earlier, entries_fit, IsUsed, LiesWithin, AreApart, EntriesFit}
 use Rattle.gpt_core.proofs.AllBelow.{all_below-at, all_below-always}
 
-true_or_false : (b : Bool) → (b ≡ true) ⊎ (b ≡ false)
+pub true_or_false : (b : Bool) → (b ≡ true) ⊎ (b ≡ false)
 true_or_false true = inl refl
 true_or_false false = inr refl
 
 -- one of two tests holds
-either : (a b : Bool) → (a || b) ≡ true → (a ≡ true) ⊎ (b ≡ true)
+pub either : (a b : Bool) → (a || b) ≡ true → (a ≡ true) ⊎ (b ≡ true)
 either true b h = inl refl
 either false b h = inr h
 
-not-true : (b : Bool) → not b ≡ true → b ≡ false
+pub not-true : (b : Bool) → not b ≡ true → b ≡ false
 not-true true h = sym h
 not-true false h = refl
 
@@ -25,7 +25,7 @@ both a b h k = ap (λ (x : Bool). x && b) h ∙ k
 
 -- ---- from the test to the statement
 
-used-true : (entries : List ℕ) (k : ℕ) → IsUsed entries k → is_used entries k ≡ true
+pub used-true : (entries : List ℕ) (k : ℕ) → IsUsed entries k → is_used entries k ≡ true
 used-true entries k used =
     elim (true_or_false (pointwise nat_eq (kind_in entries k) (replicate 16 0))) [
       | inl zeros ↦ absurd (used ((bytes_eq-Decides (kind_in entries k) (replicate 16 0)).0 zeros))
@@ -70,7 +70,7 @@ entries_fit-says first last entries h =
 
 -- ---- and back
 
-is_used-true : (entries : List ℕ) (k : ℕ) → is_used entries k ≡ true → IsUsed entries k
+pub is_used-true : (entries : List ℕ) (k : ℕ) → is_used entries k ≡ true → IsUsed entries k
 is_used-true entries k h same =
     false≢true (sym (not-true (pointwise nat_eq (kind_in entries k) (replicate 16 0)) h) ∙ (bytes_eq-Decides (kind_in entries k) (replicate 16 0)).1 same)
 

@@ -101,11 +101,11 @@ pub record SameFields (one two : List ℕ) (j : ℕ) : Type 0 where
   pub first : first_in one j ≡ first_in two j
   pub last : last_in one j ≡ last_in two j
 
-number_at-range : (size from at n : ℕ) (bytes : List ℕ) → from + size ≤ n → number_at size (range bytes at n) from ≡ number_at size bytes (at + from)
+pub number_at-range : (size from at n : ℕ) (bytes : List ℕ) → from + size ≤ n → number_at size (range bytes at n) from ≡ number_at size bytes (at + from)
 number_at-range size from at n bytes within = number_at-take size from n (drop at bytes) within ∙ ap (little_number size) (drop-drop from at bytes)
 
 -- the first 48 bytes of an entry are what the tests look at
-same_fields : (one two : List ℕ) (j : ℕ) → range one (128 * j) 48 ≡ range two (128 * j) 48 → SameFields one two j
+pub same_fields : (one two : List ℕ) (j : ℕ) → range one (128 * j) 48 ≡ range two (128 * j) 48 → SameFields one two j
 same_fields one two j same = record {
   kind = sym (take-take 16 48 (drop (128 * j) one) (omega arith)) ∙ ap (take 16) same ∙ take-take 16 48 (drop (128 * j) two) (omega arith);
   unique = sym (range-range one (128 * j) 48 16 16 (omega arith)) ∙ ap (λ (l : List ℕ). range l 16 16) same ∙ range-range two (128 * j) 48 16 16 (omega arith);
@@ -143,7 +143,7 @@ earlier_same one two k same below =
     ap (λ (b : Bool). not b || all_below k (pair_fits one k)) (used_same one two k (same k below))
     ∙ ap (λ (b : Bool). not (is_used two k) || b) (all_below-same k (pair_fits one k) (pair_fits two k) (λ j less. pair_same one two k j (same j (omega arith)) (same k below)))
 
-all_same : (first last : ℕ) (one two : List ℕ) → ((j : ℕ) → j < 128 → SameFields one two j) → entries_fit first last one ≡ entries_fit first last two
+pub all_same : (first last : ℕ) (one two : List ℕ) → ((j : ℕ) → j < 128 → SameFields one two j) → entries_fit first last one ≡ entries_fit first last two
 unfolding entries_fit
 all_same first last one two same =
     ap (λ (b : Bool). b && all_below 128 (fits_earlier one)) (all_below-same 128 (entry_fits first last one) (entry_fits first last two) (λ j below. fits_same first last one two j (same j below)))

@@ -6,5 +6,7 @@ pub mod Entries
 pub mod Format
 pub mod Heads
 pub mod Tables
+pub mod Attributes
+pub mod Placing
 pub mod Room
 pub mod Commits

@@ -8,6 +8,7 @@ use Rattle.gpt_core.specs.declared.entry.Entry.{Entry}
 use Rattle.gpt_core.specs.declared.found.Found.{Found}
 use Rattle.gpt_core.specs.declared.found.Found.TheVariants as found
 use Rattle.gpt_core.specs.Entries.{no_entries, EntriesFit, with_entry, with_attributes}
+use Rattle.gpt_core.specs.Placing.{with_each}
 use Rattle.gpt_core.specs.Format.{PartitionTable, IsValidTable, table_of_image}
 use Rattle.gpt_core.specs.Copies.{copy_of}
 use Rattle.gpt_core.specs.Tables.{IsSource}
@@ -47,6 +48,10 @@ table_with_entry table k entry = record table { entries = with_entry table.entri
 
 abbrev pub table_with_attributes : PartitionTable → ℕ → ℕ → PartitionTable
 table_with_attributes table k attributes = record table { entries = with_attributes table.entries k attributes }
+
+-- or with its attributes in each entry
+abbrev pub table_with_each : PartitionTable → (ℕ → ℕ) → PartitionTable
+table_with_each table attributes = record table { entries = with_each 128 attributes table.entries }
 
 -- what is asked of an entry that is put into a table: the entries fit then
 abbrev pub Fits : PartitionTable → ℕ → Entry → Type 0

@@ -1,5 +1,6 @@
 -- The table of a disk, by its two copies, and what is fair of a failed commit.
-use Rattle.std.specs.Prelude.{◌≡◌, ◌⊎◌, ℕ, List, Option, Some, None}
+use Rattle.std.specs.Prelude.{◌≡◌, ◌⊎◌, ℕ, Bool, ◌&&◌, nat_eq, List, Option, Some, None}
+use Rattle.std.specs.Cmp.Lexicographic.{pointwise}
 use Rattle.board_core.specs.Torn.{added}
 use Rattle.board_core.specs.Disk.{DiskMedium, overlaid}
 use Rattle.gpt_core.specs.declared.side.Side.{Side}
@@ -37,6 +38,12 @@ pub record BothHold (table : PartitionTable) (sectors : ℕ) (bytes : List ℕ) 
 -- the copies agree: both are good, and their tables are equal
 abbrev pub CopiesAgree : ℕ → List ℕ → Type 0
 CopiesAgree sectors bytes = (table : PartitionTable) × BothHold table sectors bytes
+
+-- two tables say the same: as a test
+abbrev pub says_same : PartitionTable → PartitionTable → Bool
+says_same one two =
+    pointwise nat_eq one.guid two.guid && nat_eq one.first_usable two.first_usable && nat_eq one.last_usable two.last_usable
+    && pointwise nat_eq one.entries two.entries
 
 -- what is written gives this table, in both copies
 pub record GivesTable (content : Content) (table : PartitionTable) (sectors : ℕ) : Type 0 where

@@ -1,5 +1,6 @@
 // The entries of a table: which are used, and whether they fit.
-ghost use Rattle.std.specs.Prelude.{◌≡◌, ◌+◌, ◌*◌, ◌<◌, ◌≤◌, length};
+ghost use Rattle.std.specs.Prelude.{◌≡◌, ◌+◌, ◌*◌, ◌<◌, ◌≤◌, nat_eq, length};
+ghost use Rattle.std.specs.Cmp.Lexicographic.{pointwise};
 ghost use Rattle.gpt_core.specs.Entries as spec;
 ghost use Rattle.gpt_core.specs.Entries.{all_below, lies_within, are_apart};
 
@@ -25,7 +26,7 @@ pub(crate) fn is_used(entries: &[u8], k: u32) -> bool
     entries[at..at + GUID_SIZE] != [0; GUID_SIZE]
 }
 
-fn first_sector(entries: &[u8], k: u32) -> u64
+pub(crate) fn first_sector(entries: &[u8], k: u32) -> u64
     requires size { length entries.now ≡ 16384 }
     requires place { k < 128 }
     ensures { result ≡ spec.first_in entries.now k }
@@ -33,7 +34,7 @@ fn first_sector(entries: &[u8], k: u32) -> u64
     u64_at(entries, place_of(k) + ENTRY_FIRST)
 }
 
-fn last_sector(entries: &[u8], k: u32) -> u64
+pub(crate) fn last_sector(entries: &[u8], k: u32) -> u64
     requires size { length entries.now ≡ 16384 }
     requires place { k < 128 }
     ensures { result ≡ spec.last_in entries.now k }
@@ -62,6 +63,16 @@ fn have_one_guid(entries: &[u8], j: u32, k: u32) -> bool
     let one = place_of(j) + ENTRY_UNIQUE;
     let other = place_of(k) + ENTRY_UNIQUE;
     entries[one..one + GUID_SIZE] == entries[other..other + GUID_SIZE]
+}
+
+// Whether entry `k` has this unique GUID.
+pub(crate) fn has_guid(entries: &[u8], k: u32, unique: &[u8; 16]) -> bool
+    requires size { length entries.now ≡ 16384 }
+    requires place { k < 128 }
+    ensures { result ≡ pointwise nat_eq (spec.unique_in entries.now k) unique.now }
+{
+    let at = place_of(k) + ENTRY_UNIQUE;
+    entries[at..at + GUID_SIZE] == unique[0..GUID_SIZE]
 }
 
 // Whether two entries share no sector, and have not the same unique GUID.

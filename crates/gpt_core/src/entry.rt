@@ -1,6 +1,7 @@
 // One entry of a table, as its fields.
-ghost use Rattle.std.specs.Prelude.{◌≡◌, ◌+◌, ◌<◌, ◌≤◌, length};
+ghost use Rattle.std.specs.Prelude.{◌≡◌, ◌+◌, ◌<◌, ◌≤◌, length, get_or};
 ghost use Rattle.board_core.specs.Flash.{range};
+ghost use Rattle.gpt_core.specs.Placing.{unused_entry, with_each, IsWide};
 ghost use Rattle.gpt_core.specs.Entries.{units_in, entry_in, entry_bytes, with_entry, with_attributes};
 
 use crate::bytes::Bytes;
@@ -70,6 +71,7 @@ pub(crate) fn entry_at(entries: &[u8], k: u32) -> Entry
 fn bytes_of(entry: &Entry) -> Bytes
     ensures bytes { result ≡ entry_bytes entry.now }
     ensures size { length result ≡ 128 }
+    ensures wide { IsWide entry.now }
 {
     let mut name = [0; 72];
     LittleEndian::write_u16_into(&entry.name, &mut name);
@@ -89,6 +91,16 @@ pub fn put_entry(entries: &mut [u8], k: u32, entry: &Entry)
     requires place { k < 128 }
     ensures { entries.new ≡ with_entry entries.old k entry.now }
 {
+    put_fields(entries, k, entry);
+}
+
+// The same, and the fields have their sizes.
+pub(crate) fn put_fields(entries: &mut [u8], k: u32, entry: &Entry)
+    requires size { length entries.old ≡ 16384 }
+    requires place { k < 128 }
+    ensures entries { entries.new ≡ with_entry entries.old k entry.now }
+    ensures wide { IsWide entry.now }
+{
     let at = place_of(k);
     let bytes = bytes_of(entry);
     entries[at..at + ENTRY_SIZE as usize].copy_from_slice(bytes.as_slice());
@@ -101,4 +113,31 @@ pub(crate) fn put_attributes(entries: &mut [u8], k: u32, attributes: u64)
     ensures { entries.new ≡ with_attributes entries.old k attributes }
 {
     put_u64(entries, place_of(k) + ENTRY_ATTRIBUTES, attributes);
+}
+
+// Puts attributes in all entries.
+pub(crate) fn put_all_attributes(entries: &mut [u8], attributes: &[u64; 128])
+    requires size { length entries.old ≡ 16384 }
+    ensures entries { entries.new ≡ with_each 128 (λ k. get_or attributes.now k 0) entries.old }
+    ensures size { length entries.new ≡ 16384 }
+{
+    for k in 0..128 {
+        put_attributes(entries, k, attributes[k as usize]);
+    }
+}
+
+impl Entry {
+    /// An entry that is unused: all its bytes are 0.
+    pub fn unused() -> Entry
+        ensures { result ≡ unused_entry }
+    {
+        Entry {
+            kind: [0; 16],
+            unique: [0; 16],
+            first: 0,
+            last: 0,
+            attributes: 0,
+            name: [0; 36],
+        }
+    }
 }

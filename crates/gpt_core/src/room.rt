@@ -1,13 +1,16 @@
 // The room for the table of a disk.
-ghost use Rattle.std.specs.Prelude.{◌≡◌, ◌↔◌, ◌-◌, ◌≤◌, ℕ, true, false, length, IfOk, IsTrue};
+ghost use Rattle.std.specs.Prelude.{◌≡◌, ◌↔◌, ◌-◌, ◌≤◌, ℕ, true, false, length, get_or, IfOk, IsTrue};
 ghost use Rattle.gpt_core.specs.Entries.{entry_in};
 ghost use Rattle.gpt_core.specs.Format.{IsValidTable};
+ghost use Rattle.gpt_core.specs.Placing as spec;
+ghost use Rattle.gpt_core.specs.Placing.{unused_entry, MayStand};
 ghost use Rattle.gpt_core.specs.Room.{empty_room, found_room, room_with, started_room, committed_room, Fits, table_with_entry};
-ghost use Rattle.gpt_core.specs.Room.{table_with_attributes, IsValidFound};
+ghost use Rattle.gpt_core.specs.Room.{table_with_attributes, table_with_each, IsValidFound};
 
 use crate::entry::Entry;
 use crate::found::Found;
 use crate::layout::{COPY_SIZE, LEAST_SECTORS, MOST_SECTORS};
+use crate::placing::{is_free, is_unique};
 use crate::side::Side;
 use crate::table::{Table, zeros};
 use board_core::Disk;
@@ -99,6 +102,51 @@ impl GptRoom {
         ensures { self.new ≡ record self.old { table = table_with_entry self.old.table (index - 1) entry.now } }
     {
         self.table.set_entry(index - 1, entry);
+    }
+
+    /// Whether no used entry but entry `index`, from 1 to 128, has one of the sectors `first` to `last`.
+    pub fn is_free(&self, index: u32, first: u64, last: u64) -> bool
+        requires least { 1 ≤ index }
+        requires most { index ≤ 128 }
+        ensures { result ≡ spec.is_free self.now.table.entries (index - 1) first last }
+    {
+        is_free(self.table.entries(), index - 1, first, last)
+    }
+
+    /// Whether no used entry but entry `index`, from 1 to 128, has this unique GUID.
+    pub fn is_unique(&self, index: u32, unique: &[u8; 16]) -> bool
+        requires least { 1 ≤ index }
+        requires most { index ≤ 128 }
+        ensures { result ≡ spec.is_unique self.now.table.entries (index - 1) unique.now }
+    {
+        is_unique(self.table.entries(), index - 1, unique)
+    }
+
+    /// Makes this entry `index`, from 1 to 128. It changes the table in the room alone. The entry is to lie in the usable
+    /// sectors, and no other used entry is to have one of its sectors or its unique GUID.
+    pub fn place_entry(&mut self, index: u32, entry: &Entry)
+        requires least { 1 ≤ index }
+        requires most { index ≤ 128 }
+        requires stands { MayStand self.old.table (index - 1) entry.now }
+        ensures { self.new ≡ record self.old { table = table_with_entry self.old.table (index - 1) entry.now } }
+    {
+        self.table.set_entry(index - 1, entry);
+    }
+
+    /// Makes all bytes of entry `index`, from 1 to 128, 0. It changes the table in the room alone.
+    pub fn erase_entry(&mut self, index: u32)
+        requires least { 1 ≤ index }
+        requires most { index ≤ 128 }
+        ensures { self.new ≡ record self.old { table = table_with_entry self.old.table (index - 1) unused_entry } }
+    {
+        self.table.set_entry(index - 1, &Entry::unused());
+    }
+
+    /// Gives each entry its attributes, the first those that come first. It changes the table in the room alone.
+    pub fn set_all_attributes(&mut self, attributes: &[u64; 128])
+        ensures { self.new ≡ record self.old { table = table_with_each self.old.table (λ k. get_or attributes.now k 0) } }
+    {
+        self.table.set_all_attributes(attributes);
     }
 
     /// Makes a table with this GUID and no used entry in the room, for a disk of 69 to 4,294,967,296 sectors. For any other

@@ -1,11 +1,12 @@
 // A table in memory.
-ghost use Rattle.std.specs.Prelude.{◌≡◌, ◌↔◌, ◌<◌, ◌≤◌, length, IfOk, IsTrue};
+ghost use Rattle.std.specs.Prelude.{◌≡◌, ◌↔◌, ◌<◌, ◌≤◌, length, get_or, IfOk, IsTrue};
 ghost use Rattle.gpt_core.specs.Entries.{zeros, no_entries, entry_in};
 ghost use Rattle.gpt_core.specs.Heads.{table_with};
 ghost use Rattle.gpt_core.specs.Format.{header_sector};
+ghost use Rattle.gpt_core.specs.Placing.{with_each, IsWide};
 ghost use Rattle.gpt_core.specs.Room.{empty_table, new_table, table_with_entry, table_with_attributes};
 
-use crate::entry::{Entry, entry_at, put_attributes, put_entry};
+use crate::entry::{Entry, entry_at, put_all_attributes, put_attributes, put_fields};
 use crate::header::{Head, header_sector};
 use crate::layout::{BACKUP_SECTORS, ENTRIES_SIZE, GUID_SIZE, LEAST_USABLE, SECTOR};
 use crate::side::Side;
@@ -138,8 +139,9 @@ impl Table {
         requires { k < 128 }
         ensures table { self.new ≡ table_with_entry self.old k entry.now }
         ensures size { length self.new.entries ≡ 16384 }
+        ensures wide { IsWide entry.now }
     {
-        put_entry(self.entries.as_mut_slice(), k, entry);
+        put_fields(self.entries.as_mut_slice(), k, entry);
     }
 
     pub(crate) fn set_attributes(&mut self, k: u32, attributes: u64)
@@ -149,6 +151,15 @@ impl Table {
         ensures old_size { length self.old.entries ≡ 16384 }
     {
         put_attributes(self.entries.as_mut_slice(), k, attributes);
+    }
+
+    // Gives each entry its attributes.
+    pub(crate) fn set_all_attributes(&mut self, attributes: &[u64; 128])
+        ensures table { self.new ≡ record self.old { entries = with_each 128 (λ k. get_or attributes.now k 0) self.old.entries } }
+        ensures size { length self.new.entries ≡ 16384 }
+        ensures old_size { length self.old.entries ≡ 16384 }
+    {
+        put_all_attributes(self.entries.as_mut_slice(), attributes);
     }
 
     // The sector of a copy's header.

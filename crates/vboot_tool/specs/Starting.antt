@@ -18,7 +18,9 @@ use Rattle.command_core.specs.Run.{Runs}
 -- The words were run on this board, which some world is after them.
 pub record RunsFrom (words : List (List ℕ)) (old : World) (put put' : StreamState) (status : Status) : Type 0 where
   pub new : World
-  pub runs : Runs words old new put put' status
+  -- of which the GUID is made that a command may use
+  pub seed : List ℕ
+  pub runs : Runs words seed old new put put' status
 
 -- The words are a command, which was run on a board as it was opened: nothing was pending on its disks.
 pub record RunsOpened (words : List (List ℕ)) (put put' : StreamState) (status : Status) : Type 0 where

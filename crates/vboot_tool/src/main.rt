@@ -23,6 +23,7 @@ use std::alloc::{AllocError, Global};
 use std::env::Args;
 use std::fs::File;
 use std::process::ExitCode;
+use std::random::RandomSource;
 use std::rt::Files;
 use std::{env, io};
 
@@ -50,6 +51,13 @@ fn hold_streams<R: Files>(rt: &R) -> [Option<R::File>; 3] {
     ]
 }
 
+// 32 random bytes, of which the GUIDs of a run are made. Where the system has none to give, they are as far as it filled them.
+fn seed<R: RandomSource>(rt: &R) -> [u8; 32] {
+    let mut seed = [0; 32];
+    let _ = rt.fill_bytes(&mut seed);
+    seed
+}
+
 // Runs these words over a board, or tells why it was not opened.
 fn run_over<
     F: Flash + Drop,
@@ -61,6 +69,7 @@ fn run_over<
 >(
     alloc: Global,
     words: &[String],
+    seed: [u8; 32],
     opened: Result<Platform<F, T, D, E, H>, OpenFault>,
     out: &mut O,
 ) -> Status
@@ -72,13 +81,17 @@ fn run_over<
         → StartsBy (map string_bytes words.now) (O.state out.old) (O.state out.new) result }
 {
     match opened {
-        Ok(mut board) => run(alloc, words, &mut board, out),
+        Ok(mut board) => run(alloc, words, seed, &mut board, out),
         Err(fault) => print(out, &Answer::Unopened(fault)),
     }
 }
 
 // Runs these words over the files of the current folder. Words that are refused do not take it, so they are read before.
-fn run_here<R: Files + AllocGlobal, O: Sink>(rt: &R, words: &[String], out: &mut O) -> Status
+fn run_here<R: Files + RandomSource + AllocGlobal, O: Sink>(
+    rt: &R,
+    words: &[String],
+    out: &mut O,
+) -> Status
 where
     R::File: Handle,
     ensures { StartsBy (map string_bytes words.now) (O.state out.old) (O.state out.new) result }
@@ -90,20 +103,28 @@ where
 }
 
 // Runs the words of a command over the current folder, which no other run has meanwhile.
-fn run_in_folder<R: Files + AllocGlobal, O: Sink>(rt: &R, words: &[String], out: &mut O) -> Status
+fn run_in_folder<R: Files + RandomSource + AllocGlobal, O: Sink>(
+    rt: &R,
+    words: &[String],
+    out: &mut O,
+) -> Status
 where
     R::File: Handle,
     requires { IsCommand (map string_bytes words.now) }
     ensures { StartsBy (map string_bytes words.now) (O.state out.old) (O.state out.new) result }
 {
     match Folder::take(rt) {
-        Ok(folder) => run_over(rt.alloc(), words, open_board(rt.alloc(), &folder), out),
+        Ok(folder) => run_over(rt.alloc(), words, seed(rt), open_board(rt.alloc(), &folder), out),
         Err(fault) => print(out, &Answer::Unopened(fault)),
     }
 }
 
 // Runs the words of a process, of which the first is the program's name, and ends with the status of the command.
-fn run_process<R: Files + AllocGlobal, O: Sink>(rt: &R, process: Args, out: &mut O) -> ExitCode
+fn run_process<R: Files + RandomSource + AllocGlobal, O: Sink>(
+    rt: &R,
+    process: Args,
+    out: &mut O,
+) -> ExitCode
 where
     R::File: Handle,
     ensures { EndsBy (map string_bytes (drop 1 (into_iter_items process))) (O.state out.old) (O.state out.new) (exit_status result) }

@@ -1,9 +1,9 @@
 use Rattle.std.specs.Prelude.{Ok}
 use Rattle.board_core.specs.declared.device.Failed.{Failed}
-use Rattle.cgpt_core.specs.Text.{entry_lines}
+use Rattle.cgpt_core.specs.Text.{entry_line, lines_below}
 use Rattle.board_core.specs.Streams.{PutsText}
 use Rattle.cgpt_core.proofs.putting.put_parts.Given as goal
 
 -- the lines of the entries so far were put
 abbrev pub invariant-loop-k : goal.invariant-loop-k
-invariant-loop-k g l = record { put : PutsText {E = Failed} (entry_lines l.k l.room.table.entries) (g.O.Sink.state l.initial.out) (g.O.Sink.state l.out) (Ok tt) }
+invariant-loop-k g l = record { put : PutsText {E = Failed} (lines_below l.k (entry_line l.room.table.entries)) (g.O.Sink.state l.initial.out) (g.O.Sink.state l.out) (Ok tt) }

@@ -114,7 +114,13 @@ where
     ensures { StartsBy (map string_bytes words.now) (O.state out.old) (O.state out.new) result }
 {
     match Folder::take(rt) {
-        Ok(folder) => run_over(rt.alloc(), words, seed(rt), open_board(rt.alloc(), &folder), out),
+        Ok(folder) => run_over(
+            rt.alloc(),
+            words,
+            seed(rt),
+            open_board(rt.alloc(), &folder),
+            out,
+        ),
         Err(fault) => print(out, &Answer::Unopened(fault)),
     }
 }

@@ -3,7 +3,7 @@ use Rattle.std.proofs.Common.{◌≡◌, ℕ, zero, suc, ◌+◌, ◌-◌, ◌*�
 use Rattle.std.specs.Prelude.{nat_eq, if◌then◌else◌}
 use Rattle.std.proofs.lemmas.Bool.{and_parts, and_from, ltb-true, ltb-false, eqb-true, eq-eqb, lt-ltb, or_cases, or_left, or_right}
 use Rattle.gpt_core.specs.Entries.{attributes_in}
-use Rattle.walk_core.specs.Attributes.{priority_of}
+use Rattle.gpt_core.specs.Attributes.{priority_of}
 use Rattle.walk_core.specs.Candidates.{is_candidate, rank_in}
 use Rattle.walk_core.specs.Kernels.{Drive}
 use Rattle.walk_core.specs.Chosen.{head_is_good, kernel_is_good, is_good_candidate, head_of, ComesBefore, comes_before, IsChosen, Chosen, later_count, Counts, IsLeastVersion, IsLowest}

@@ -13,7 +13,8 @@ use Rattle.walk_core.specs.Attributes.{tried, found_bad}
 use Rattle.walk_core.specs.Candidates.{is_candidate, rank_in}
 use Rattle.std.proofs.lemmas.List.{take_at, length-take-le}
 use Rattle.gpt_core.proofs.Fronts.{BeginsWith, number_last}
-use Rattle.walk_core.specs.Fates.{with_each, fate_by, room_having, HasFates, SameButAttributes}
+use Rattle.walk_core.specs.Fates.{fate_by, room_having, HasFates, SameButAttributes}
+use Rattle.gpt_core.specs.Placing.{with_each}
 use Rattle.walk_core.specs.Steps.{entry_at, chosen_at, fate_at, mark_of}
 
 -- ---- entries that are not reached yet

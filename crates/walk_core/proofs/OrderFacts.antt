@@ -5,7 +5,7 @@ use Rattle.std.proofs.lemmas.List.{get_or_default}
 use Rattle.std.proofs.lemmas.List.Elements.{All-nil, All-push, All-weaker, All-get_or, Contains-append_left, Contains-push}
 use Rattle.std.proofs.lemmas.List.Sorted.{All-permutation, Contains-permutation}
 use Rattle.gpt_core.specs.Entries.{attributes_in}
-use Rattle.walk_core.specs.Attributes.{priority_of}
+use Rattle.gpt_core.specs.Attributes.{priority_of}
 use Rattle.walk_core.specs.Candidates.{is_candidate, rank_in, ranks_among, AreInOrder}
 use Rattle.walk_core.specs.Steps.{entry_at}
 

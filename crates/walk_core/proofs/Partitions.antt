@@ -6,7 +6,8 @@ use Rattle.std.proofs.lemmas.Bool.{and_parts, leb-true, false≢true}
 use Rattle.gpt_core.specs.Entries.{kind_in, attributes_in, first_in, last_in, IsUsed}
 use Rattle.gpt_core.specs.Format.{PartitionTable, IsValidTable}
 use Rattle.gpt_core.proofs.UsedEntries.{used_between}
-use Rattle.walk_core.specs.Candidates.{kernel_type, may_boot, is_candidate}
+use Rattle.walk_core.specs.Candidates.{may_boot, is_candidate}
+use Rattle.gpt_core.specs.Attributes.{kernel_type}
 
 pub record LiesOnDisk (sectors first last : ℕ) : Type 0 where
   pub ordered : first ≤ last

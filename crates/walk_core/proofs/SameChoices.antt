@@ -11,7 +11,8 @@ use Rattle.walk_core.specs.Candidates.{is_candidate}
 use Rattle.walk_core.specs.Kernels.{Drive}
 use Rattle.walk_core.specs.Chosen.{sectors_in, head_is_good, is_good_candidate, head_of, comes_before, later_count_by, later_count}
 use Rattle.walk_core.specs.Choice.{earlier_of, chosen_below, chosen_in, counts, least_below, lowest_in}
-use Rattle.walk_core.specs.Fates.{fate_by, has_bad_head, fate, with_each, table_after}
+use Rattle.walk_core.specs.Fates.{fate_by, has_bad_head, fate, table_after}
+use Rattle.gpt_core.specs.Placing.{with_each}
 use Rattle.walk_core.specs.Walks.{sum_below, is_reached, body_sectors_in, body_sectors_read, sectors_for, IsKernelOf}
 use Rattle.walk_core.specs.Seen.{kernel_at, walked_in, table_walked}
 use Rattle.walk_core.specs.declared.walked.Kernel.{Kernel}

@@ -16,7 +16,7 @@ use Rattle.kernel_core.specs.declared.head_fault.HeadOk.{HeadOk}
 use Rattle.walk_core.specs.Kernels.{Drive, head_bytes, asked_of_head}
 use Rattle.walk_core.specs.Examined.{FoundKernel}
 use Rattle.walk_core.specs.Chosen.{sectors_in}
-use Rattle.walk_core.specs.Fates.{with_each}
+use Rattle.gpt_core.specs.Placing.{with_each}
 use Rattle.walk_core.specs.Walks.{IsKernelAt}
 use Rattle.walk_core.specs.declared.walked.Kernel.{Kernel}
 use Rattle.walk_core.proofs.Marks.{length-with_each, apart_front}

@@ -4,7 +4,8 @@ use Rattle.std.proofs.Common.{◌≡◌, ℕ, ◌+◌, ◌-◌, ◌*◌, ◌<◌
 use Rattle.std.specs.Prelude.{is_some, if◌then◌else◌}
 use Rattle.std.proofs.lemmas.Bool.{and_from, and_parts, and_left, and_right, ltb-true}
 use Rattle.gpt_core.specs.Entries.{attributes_in, first_in}
-use Rattle.walk_core.specs.Attributes.{priority_of, tried, found_bad}
+use Rattle.walk_core.specs.Attributes.{tried, found_bad}
+use Rattle.gpt_core.specs.Attributes.{priority_of}
 use Rattle.walk_core.specs.Candidates.{is_candidate, rank_in}
 use Rattle.walk_core.specs.Kernels.{Drive, body_fault}
 use Rattle.walk_core.specs.Chosen.{sectors_in, head_is_good, kernel_is_good, is_good_candidate, head_of, ComesBefore, comes_before, IsChosen, later_count_by, later_count, Counts, IsLeastVersion, IsLowestFor}

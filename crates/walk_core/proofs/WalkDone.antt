@@ -17,7 +17,8 @@ use Rattle.walk_core.specs.Candidates.{is_candidate, AreInOrder}
 use Rattle.walk_core.specs.Kernels.{Drive}
 use Rattle.walk_core.specs.Examined.{FoundKernel}
 use Rattle.walk_core.specs.Chosen.{sectors_in, head_is_good, head_of, Chosen, IsLowest, later_count_by}
-use Rattle.walk_core.specs.Fates.{with_each, fate_by, fate, room_having, HasFates, SameButAttributes}
+use Rattle.walk_core.specs.Fates.{fate_by, fate, room_having, HasFates, SameButAttributes}
+use Rattle.gpt_core.specs.Placing.{with_each}
 use Rattle.walk_core.specs.Walks.{sum_below, sectors_for, most_sectors_for, kernel_for, IsKernelOf, Walks}
 use Rattle.walk_core.specs.Steps.{entry_at, entry_in_order, sectors_of_rank, most_sectors_of_rank, FindsFirst, Knows, LooksLater, none_later, mark_of}
 use Rattle.walk_core.specs.declared.first.Taken.{Taken}

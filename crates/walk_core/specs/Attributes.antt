@@ -2,18 +2,11 @@
 -- Source: `GptUpdateKernelWithEntry` and the `GetEntry` and `SetEntry` calls of vboot_reference (firmware/lib/cgptlib/cgptlib.c
 -- and cgptlib_internal.c), and "Disk format" in the ChromiumOS design documents.
 use Rattle.std.specs.Prelude.{ℕ, ◌+◌, ◌-◌, ◌*◌, ◌/◌, ◌%◌, ◌^◌, Bool, not, nat_le, ◌==◌, if◌then◌else◌}
-
--- bits 48 to 51: the priority, 0 where the kernel is not to be booted
-abbrev pub priority_of : ℕ → ℕ
-priority_of attributes = attributes / 2 ^ 48 % 16
-
--- bits 52 to 55: how many tries are left
-abbrev pub tries_of : ℕ → ℕ
-tries_of attributes = attributes / 2 ^ 52 % 16
+use Rattle.gpt_core.specs.Attributes.{tries_of, successful_of}
 
 -- bit 56: it was booted with success
 abbrev pub is_successful : ℕ → Bool
-is_successful attributes = not (attributes / 2 ^ 56 % 2 == 0)
+is_successful attributes = not (successful_of attributes == 0)
 
 -- the same with priority 0 and no try left
 abbrev pub given_up : ℕ → ℕ

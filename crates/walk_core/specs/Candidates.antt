@@ -4,12 +4,8 @@ use Rattle.std.specs.Prelude.{◌≡◌, ◌<◌, ◌⊎◌, ℕ, zero, suc, ◌
 use Rattle.std.specs.List.Sorted.{IsPermutation, IsNonDecreasing}
 use Rattle.std.specs.Cmp.Lexicographic.{pointwise}
 use Rattle.gpt_core.specs.Entries.{kind_in, attributes_in}
-use Rattle.walk_core.specs.Attributes.{priority_of, tries_of, is_successful}
-
--- the type of a kernel's partition, fe3a2a5d-4f32-41a7-b725-accc3285a309, as it is stored
-abbrev pub kernel_type : List ℕ
-kernel_type =
-    0x5d ∷ 0x2a ∷ 0x3a ∷ 0xfe ∷ 0x32 ∷ 0x4f ∷ 0xa7 ∷ 0x41 ∷ 0xb7 ∷ 0x25 ∷ 0xac ∷ 0xcc ∷ 0x32 ∷ 0x85 ∷ 0xa3 ∷ 0x09 ∷ []
+use Rattle.gpt_core.specs.Attributes.{kernel_type, priority_of, tries_of}
+use Rattle.walk_core.specs.Attributes.{is_successful}
 
 -- it may be booted: it has a priority, and was successful or has a try left
 abbrev pub may_boot : ℕ → Bool

@@ -6,6 +6,7 @@ use Rattle.std.specs.Prelude.{List, length, Option, Some, None, if◌then◌else
 use Rattle.board_core.specs.Flash.{range}
 use Rattle.gpt_core.specs.Entries.{attributes_in, with_attributes}
 use Rattle.gpt_core.specs.Format.{PartitionTable}
+use Rattle.gpt_core.specs.Placing.{with_each}
 use Rattle.gpt_core.specs.Room.{RoomView}
 use Rattle.walk_core.specs.Attributes.{tried, found_bad}
 use Rattle.walk_core.specs.Candidates.{is_candidate}
@@ -45,11 +46,6 @@ fate d entries chosen k = fate_by (has_bad_head d entries chosen) entries chosen
 -- each entry has these attributes
 abbrev pub HasFates : List ℕ → (ℕ → ℕ) → Type 0
 HasFates entries fates = (k : ℕ) → k < 128 → attributes_in entries k ≡ fates k
-
--- the entries with these attributes in each of the first so many
-unfoldable pub with_each : ℕ → (ℕ → ℕ) → List ℕ → List ℕ
-with_each zero attributes entries = entries
-with_each (suc k) attributes entries = with_attributes (with_each k attributes entries) k (attributes k)
 
 -- the entries after a walk, of which the later bad ones are told
 abbrev pub marked_entries : (later_is_bad : ℕ → Bool) → List ℕ → (chosen : Option ℕ) → List ℕ

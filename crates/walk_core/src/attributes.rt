@@ -1,6 +1,8 @@
-// The attributes of a kernel's entry: priority, tries and whether it was successful.
-ghost use Rattle.std.specs.Prelude.{◌≡◌, ◌≤◌};
+// What becomes of the attributes of a kernel's entry.
+ghost use Rattle.std.specs.Prelude.{◌≡◌};
 ghost use Rattle.walk_core.specs.Attributes as spec;
+
+use gpt_core::{successful_of, tries_of};
 
 // What one of priority, tries and the successful bit counts in the attributes.
 const PRIORITY_UNIT: u64 = 1 << 48;
@@ -9,27 +11,11 @@ const TRIES_UNIT: u64 = 1 << 52;
 
 const SUCCESSFUL_UNIT: u64 = 1 << 56;
 
-/// The priority, from 0 to 15: bits 48 to 51. A kernel of priority 0 is not booted.
-pub fn priority(attributes: u64) -> u32
-    ensures value { result ≡ spec.priority_of attributes }
-    ensures most { result ≤ 15 }
-{
-    (attributes / PRIORITY_UNIT % 16) as u32
-}
-
-/// The tries that are left, from 0 to 15: bits 52 to 55.
-pub fn tries(attributes: u64) -> u32
-    ensures value { result ≡ spec.tries_of attributes }
-    ensures most { result ≤ 15 }
-{
-    (attributes / TRIES_UNIT % 16) as u32
-}
-
 /// Whether the kernel was booted with success: bit 56.
 pub fn is_successful(attributes: u64) -> bool
     ensures { result ≡ spec.is_successful attributes }
 {
-    attributes / SUCCESSFUL_UNIT % 2 != 0
+    successful_of(attributes) != 0
 }
 
 // The attributes with priority 0 and no try left.
@@ -47,7 +33,7 @@ pub fn tried_attributes(attributes: u64) -> u64
     if is_successful(attributes) {
         return attributes;
     }
-    if tries(attributes) >= 2 {
+    if tries_of(attributes) >= 2 {
         attributes - TRIES_UNIT
     } else {
         given_up(attributes)

@@ -4,17 +4,12 @@ ghost use Rattle.gpt_core.specs.Entries.{entry_in};
 ghost use Rattle.walk_core.specs.Candidates as spec;
 ghost use Rattle.walk_core.specs.Candidates.{is_kernel_candidate, ranks_among, IsEarlier, AreInOrder};
 
-use crate::attributes::{is_successful, priority, tries};
+use crate::attributes::is_successful;
 use arrayvec::ArrayVec;
-use gpt_core::{Entry, GptRoom};
+use gpt_core::{Entry, GptRoom, KERNEL_TYPE, priority_of, tries_of};
 
 /// The most candidates that a table has.
 pub const CANDIDATES: usize = 128;
-
-/// The type of a kernel's partition, fe3a2a5d-4f32-41a7-b725-accc3285a309, as it is stored.
-pub const KERNEL_TYPE: [u8; 16] = [
-    0x5d, 0x2a, 0x3a, 0xfe, 0x32, 0x4f, 0xa7, 0x41, 0xb7, 0x25, 0xac, 0xcc, 0x32, 0x85, 0xa3, 0x09,
-];
 
 // Candidates of a table by their ranks, in the order in which they are tried.
 #[derive(Clone, Copy)]
@@ -27,7 +22,7 @@ pub(crate) struct Candidates<'a> {
 fn may_boot(attributes: u64) -> bool
     ensures { result ≡ spec.may_boot attributes }
 {
-    priority(attributes) >= 1 && (is_successful(attributes) || tries(attributes) >= 1)
+    priority_of(attributes) >= 1 && (is_successful(attributes) || tries_of(attributes) >= 1)
 }
 
 /// Whether the entry is a candidate: a kernel of priority over 0 that was successful or has a try left.
@@ -45,7 +40,7 @@ pub fn rank(attributes: u64, index: u32) -> u32
     ensures value { result ≡ spec.rank attributes (index - 1) }
     ensures below { result < 2048 }
 {
-    (15 - priority(attributes)) * 128 + (index - 1)
+    (15 - priority_of(attributes)) as u32 * 128 + (index - 1)
 }
 
 /// Whether one entry comes before another where both are candidates: its priority is higher, or the priorities are equal and

@@ -18,10 +18,8 @@ mod later;
 mod walked;
 mod walking;
 
-pub use attributes::{bad_attributes, is_successful, priority, tried_attributes, tries};
-pub use candidates::{
-    CANDIDATES, KERNEL_TYPE, candidates_in_order, is_candidate, is_earlier, rank,
-};
+pub use attributes::{bad_attributes, is_successful, tried_attributes};
+pub use candidates::{CANDIDATES, candidates_in_order, is_candidate, is_earlier, rank};
 pub use drive::{Seen, see};
 pub use examine::{examine_head, examine_kernel};
 pub use fates::fate;

@@ -1,6 +1,7 @@
 -- Each entry in turn meets its fate.
 use Rattle.std.proofs.Common.{◌≡◌, ℕ, ◌<◌, ◌^◌, List, ap, sym, ◌∙◌, arith}
-use Rattle.walk_core.specs.Fates.{with_each, fate_by, room_having}
+use Rattle.walk_core.specs.Fates.{fate_by, room_having}
+use Rattle.gpt_core.specs.Placing.{with_each}
 use Rattle.walk_core.specs.Steps.{chosen_at, mark_of}
 use Rattle.walk_core.proofs.Marks.{with_each-none, fate_of, marked_more, fates-none, each_more, each_all, kept_all}
 use Rattle.walk_core.proofs.fates.mark.Goals as goal

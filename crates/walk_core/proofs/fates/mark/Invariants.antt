@@ -1,6 +1,7 @@
 -- The entries so far have met their fates.
 use Rattle.std.proofs.Common.{◌≡◌}
-use Rattle.walk_core.specs.Fates.{with_each, fate_by, room_having}
+use Rattle.walk_core.specs.Fates.{fate_by, room_having}
+use Rattle.gpt_core.specs.Placing.{with_each}
 use Rattle.walk_core.specs.Steps.{chosen_at, mark_of}
 use Rattle.walk_core.proofs.Marks.{FatesBelow}
 use Rattle.walk_core.proofs.fates.mark.Given as goal

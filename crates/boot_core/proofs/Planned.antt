@@ -64,7 +64,7 @@ disk_same Disk old mid same = same.disk
 disk_same Stick old mid same = same.stick
 
 drive_same : (on : Drive) (key : PackedKey) (rules : KernelRules) (old mid : World) → SameDrives old mid → drive_asked on key rules mid ≡ asked_by (drive_asked on key rules old) mid.hook
-drive_same on key rules old mid same = ap (λ (d : DiskState). let drive : kernels.Drive = record { disk = d; hook = mid.hook; key = key; rules = rules } in drive) (disk_same on old mid same)
+drive_same on key rules old mid same = ap (λ (d : DiskState). let drive : kernels.WalkQuestion = record { disk = d; hook = mid.hook; key = key; rules = rules } in drive) (disk_same on old mid same)
 
 -- What is seen on a drive, after the slot was verified.
 record SeenFrom (on : Drive) (key : PackedKey) (rules : KernelRules) (old new : World) (room : RoomView) (body : List ℕ) (result : Result Seen Fault) : Type 0 where
@@ -81,8 +81,8 @@ on_ok P Q (Err e) law h = tt
 seen_from : (on : Drive) (key : PackedKey) (rules : KernelRules) (old mid new : World) (room : RoomView) (body : List ℕ) (result : Result Seen Fault) → SameDrives old mid
     → SameRows (drive_asked on key rules old) mid.hook → LooksAtDrive on key rules mid new room body result → SeenFrom on key rules old new room body result
 seen_from on key rules old mid new room body result same rows h =
-    let d : kernels.Drive = drive_asked on key rules old in
-    let e : kernels.Drive = drive_asked on key rules mid in
+    let d : kernels.WalkQuestion = drive_asked on key rules old in
+    let e : kernels.WalkQuestion = drive_asked on key rules mid in
     let is : e ≡ asked_by d mid.hook = drive_same on key rules old mid same in
     let disk : drive_on on mid ≡ drive_on on old = disk_same on old mid same in
     let told = λ (t : IsTold old). subst (λ (s : DiskState). IsTrue s.medium.told) (sym disk) (told_on on old t) in
@@ -90,16 +90,16 @@ seen_from on key rules old mid new room body result same rows h =
     record {
       reads = λ t.
           let most : sectors_of_walk e (table_on (drive_on on mid).medium) ≡ sectors_of_walk d (table_on (drive_on on old).medium) =
-          ap (λ (x : kernels.Drive). sectors_of_walk x (table_on (drive_on on mid).medium)) is
+          ap (λ (x : kernels.WalkQuestion). sectors_of_walk x (table_on (drive_on on mid).medium)) is
           ∙ sectors_again d (table_on (drive_on on mid).medium) mid.hook rows
           ∙ ap (λ (s : DiskState). sectors_of_walk d (table_on s.medium)) disk in
           let was : (drive_on on mid).medium.sectors_read ≡ (drive_on on old).medium.sectors_read = ap (λ (s : DiskState). s.medium.sectors_read) disk in
           omega (arith, h.reads (told t) (hook t), most, was);
       seen = λ t. on_ok (λ what. what ≡ seen_on on key rules mid) (λ what. what ≡ seen_on on key rules old) result (λ what now. now ∙ ap seen_in is ∙ seen_again d mid.hook rows) (h.seen (told t) (hook t));
-      kernel = λ t. on_ok (IsSeen e body) (IsSeen d body) result (λ what now. is_seen_again d body what mid.hook rows (subst (λ (x : kernels.Drive). IsSeen x body what) is now)) (h.kernel (told t) (hook t));
+      kernel = λ t. on_ok (IsSeen e body) (IsSeen d body) result (λ what now. is_seen_again d body what mid.hook rows (subst (λ (x : kernels.WalkQuestion). IsSeen x body what) is now)) (h.kernel (told t) (hook t));
       holds = λ t.
           on_ok (λ what. HasTable what → HoldsWalked e room) (λ what. HasTable what → HoldsWalked d room) result
-          (λ what now has. holds_again d room mid.hook rows (subst (λ (x : kernels.Drive). HoldsWalked x room) is (now has))) (h.holds (told t) (hook t));
+          (λ what now has. holds_again d room mid.hook rows (subst (λ (x : kernels.WalkQuestion). HoldsWalked x room) is (now has))) (h.holds (told t) (hook t));
     }
 
 -- ---- the sectors that are read
@@ -130,11 +130,11 @@ not_by : (a b : Bool) → not (a && b) ≡ false → a ≡ true
 not_by true b is = refl
 not_by false b is = absurd (false≢true (sym is))
 
-agrees_by : (d : kernels.Drive) (o : Option PartitionTable) → changed_in (seen_by d o) ≡ false → IsTrue (copies_agree d.disk.medium)
+agrees_by : (d : kernels.WalkQuestion) (o : Option PartitionTable) → changed_in (seen_by d o) ≡ false → IsTrue (copies_agree d.disk.medium)
 agrees_by d None is = absurd (false≢true (sym is))
 agrees_by d (Some table) is = not_by (copies_agree d.disk.medium) (bytes_eq (table_walked d table).entries table.entries) is
 
-copies_seen : (d : kernels.Drive) (what : Seen) → changed_in what ≡ false → what ≡ seen_in d → IsTrue (copies_agree d.disk.medium)
+copies_seen : (d : kernels.WalkQuestion) (what : Seen) → changed_in what ≡ false → what ≡ seen_in d → IsTrue (copies_agree d.disk.medium)
 unfolding seen_in
 copies_seen d what is now = agrees_by d (table_on d.disk.medium) (ap changed_in (sym now) ∙ is)
 
@@ -170,13 +170,13 @@ abbrev if_some : Option Kernel → Bool
 if_some None = false
 if_some (Some kernel) = true
 
-kernel_taken : (d : kernels.Drive) (body : List ℕ) (o : Option Kernel) (kernel : Kernel) → o ≡ Some kernel
+kernel_taken : (d : kernels.WalkQuestion) (body : List ℕ) (o : Option Kernel) (kernel : Kernel) → o ≡ Some kernel
     → IfSome o (λ (k : Kernel). (table : PartitionTable) × (table_on d.disk.medium ≡ Some table) × IsKernelOf d table.entries (k.partition - 1) k body)
     → (table : PartitionTable) × (table_on d.disk.medium ≡ Some table) × IsKernelOf d table.entries (kernel.partition - 1) kernel body
 kernel_taken d body o kernel is taken = subst (λ (x : Option Kernel). IfSome x (λ (k : Kernel). (table : PartitionTable) × (table_on d.disk.medium ≡ Some table) × IsKernelOf d table.entries (k.partition - 1) k body)) is taken
 
 -- the kernel that was seen, by its fields
-holds_kernel : (d : kernels.Drive) (what : Seen) (kernel : Kernel) (hand : Hand) (body : List ℕ) → kernel_of what ≡ Some kernel → IsSeen d body what → what ≡ seen_in d → kernel_in hand ≡ kernel → HoldsKernel d hand body
+holds_kernel : (d : kernels.WalkQuestion) (what : Seen) (kernel : Kernel) (hand : Hand) (body : List ℕ) → kernel_of what ≡ Some kernel → IsSeen d body what → what ≡ seen_in d → kernel_in hand ≡ kernel → HoldsKernel d hand body
 holds_kernel d seen.NoTable kernel hand body is taken now same = absurd (false≢true (ap (λ (o : Option Kernel). if_some o) is))
 holds_kernel d (seen.Table walked changed) kernel hand body is taken now same =
     let there = kernel_taken d body walked.chosen kernel is taken in

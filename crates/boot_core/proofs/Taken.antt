@@ -44,11 +44,11 @@ abbrev IsThere : Option Kernel → Type 0
 IsThere None = ⊥
 IsThere (Some kernel) = Unit {0}
 
-there_by : (d : kernels.Drive) (entries : List ℕ) (k : ℕ) (c : Option ℕ) → Chosen d entries c → k < 128 → is_good_candidate d entries k ≡ true → IsThere (kernel_at d entries c)
+there_by : (d : kernels.WalkQuestion) (entries : List ℕ) (k : ℕ) (c : Option ℕ) → Chosen d entries c → k < 128 → is_good_candidate d entries k ≡ true → IsThere (kernel_at d entries c)
 there_by d entries k None none below good = absurd (false≢true (sym (none k below) ∙ good))
 there_by d entries k (Some j) chosen below good = tt
 
-sees_kernel : (d : kernels.Drive) (table : PartitionTable) (k : ℕ) → table_on d.disk.medium ≡ Some table → k < 128 → is_good_candidate d table.entries k ≡ true → IsThere (kernel_of (seen_in d))
+sees_kernel : (d : kernels.WalkQuestion) (table : PartitionTable) (k : ℕ) → table_on d.disk.medium ≡ Some table → k < 128 → is_good_candidate d table.entries k ≡ true → IsThere (kernel_of (seen_in d))
 unfolding seen_in
 sees_kernel d table k there below good =
     subst (λ (o : Option PartitionTable). IsThere (kernel_of (seen_by d o))) (sym there) (there_by d table.entries k (chosen_in d table.entries) (is_chosen d table.entries) below good)

@@ -235,12 +235,12 @@ disk_same Stick a b same = same.stick
 -- and so are the kernels of a drive
 drive_same : (on : Drive) (key : PackedKey) (rules : KernelRules) (a b : World) → SameBoards a b → drive_asked on key rules b ≡ drive_asked on key rules a
 drive_same on key rules a b same =
-    ap (λ (d : DiskState). let drive : kernels.Drive = record { disk = d; hook = b.hook; key = key; rules = rules } in drive) (disk_same on a b same)
-    ∙ ap (λ (h : HookState). let drive : kernels.Drive = record { disk = drive_on on a; hook = h; key = key; rules = rules } in drive) same.hook
+    ap (λ (d : DiskState). let drive : kernels.WalkQuestion = record { disk = d; hook = b.hook; key = key; rules = rules } in drive) (disk_same on a b same)
+    ∙ ap (λ (h : HookState). let drive : kernels.WalkQuestion = record { disk = drive_on on a; hook = h; key = key; rules = rules } in drive) same.hook
 
 slot_plan_same : (sw : Switches) (found : Found) (developer : Bool) (answer : Result SlotOk SlotFault) (a b : World) → SameBoards a b → slot_plan_of sw found developer answer b ≡ slot_plan_of sw found developer answer a
 slot_plan_same sw found developer (Ok ok) a b same =
-    ap (λ (d : kernels.Drive). drive_plan_of found developer ok (drive_of sw found developer) (seen_in d))
+    ap (λ (d : kernels.WalkQuestion). drive_plan_of found developer ok (drive_of sw found developer) (seen_in d))
     (drive_same (drive_of sw found developer) ok.subkey (rules_of sw found (boot_mode_of developer)) a b same)
 slot_plan_same sw found developer (Err fault) a b same = refl
 
@@ -252,7 +252,7 @@ plan_by_answer sw found developer a b same =
 
 plan_in_same : (mode : Mode) (sw : Switches) (found : Found) (a b : World) → SameBoards a b → plan_in mode sw found b ≡ plan_in mode sw found a
 plan_in_same Manual sw found a b same =
-    ap (λ (d : kernels.Drive). if enables_dev sw found.firmware then enabling_plan_of found else recovery_plan_of found (seen_in d))
+    ap (λ (d : kernels.WalkQuestion). if enables_dev sw found.firmware then enabling_plan_of found else recovery_plan_of found (seen_in d))
     (drive_same Stick (recovery_of found.gbb) (rules_of sw found boot_mode.Recovery) a b same)
 plan_in_same (Broken reason subcode) sw found a b same = refl
 plan_in_same Normal sw found a b same = plan_by_answer sw found false a b same
@@ -274,7 +274,7 @@ look_of_same sw found a b same = look_in_same (mode_of (facts_of sw found)) sw f
 
 table_by_look : (look : Option Look) (a b : World) → SameBoards a b → table_after_look look b ≡ table_after_look look a
 table_by_look None a b same = refl
-table_by_look (Some look) a b same = ap (λ (d : kernels.Drive). table_by d (table_on d.disk.medium)) (drive_same look.drive look.key look.rules a b same)
+table_by_look (Some look) a b same = ap (λ (d : kernels.WalkQuestion). table_by d (table_on d.disk.medium)) (drive_same look.drive look.key look.rules a b same)
 
 table_same : (sw : Switches) (found : Found) (a b : World) → SameBoards a b → table_after_look (look_of sw found b) b ≡ table_after_look (look_of sw found a) a
 table_same sw found a b same = ap (λ (look : Option Look). table_after_look look b) (look_of_same sw found a b same) ∙ table_by_look (look_of sw found a) a b same
@@ -282,7 +282,7 @@ table_same sw found a b same = ap (λ (look : Option Look). table_after_look loo
 most_same : (look : Option Look) (on : Drive) (a b : World) → SameBoards a b → most_read look b on ≡ most_read look a on
 most_same None on a b same = refl
 most_same (Some look) on a b same =
-    ap (λ (d : kernels.Drive). if same_drive look.drive on then 66 + sectors_of_walk d (table_on d.disk.medium) else 0) (drive_same look.drive look.key look.rules a b same)
+    ap (λ (d : kernels.WalkQuestion). if same_drive look.drive on then 66 + sectors_of_walk d (table_on d.disk.medium) else 0) (drive_same look.drive look.key look.rules a b same)
 
 -- what is read of one is read of both
 reads_same : (look : Option Look) (a b new : World) → SameBoards a b → ReadsAtMost look b new → ReadsAtMost look a new
@@ -303,7 +303,7 @@ slot_same found (Some slot) hand firmware a b same holds = subst (λ (q : SlotQu
 hand_same : (sw : Switches) (found : Found) (a b : World) (handed : Handed) (hand : Hand) → SameBoards a b → HoldsHand sw found b handed hand → HoldsHand sw found a handed hand
 hand_same sw found a b handed hand same holds = record {
   firmware = slot_same found hand.slot hand handed.firmware a b same holds.firmware;
-  kernel = subst (λ (d : kernels.Drive). HoldsKernel d hand handed.kernel)
+  kernel = subst (λ (d : kernels.WalkQuestion). HoldsKernel d hand handed.kernel)
       (ap (λ (k : PackedKey). drive_asked hand.drive k (rules_of sw found hand.mode) b) (key_same found hand.slot a b same)
       ∙ drive_same hand.drive (kernel_key found a hand.slot) (rules_of sw found hand.mode) a b same) holds.kernel;
   firmware_no_older = holds.firmware_no_older;

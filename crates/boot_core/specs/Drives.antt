@@ -77,7 +77,7 @@ recovery_of (Err fault) = no_key
 
 -- ---- what is seen
 
-abbrev pub drive_asked : Drive → PackedKey → KernelRules → World → kernels.Drive
+abbrev pub drive_asked : Drive → PackedKey → KernelRules → World → kernels.WalkQuestion
 drive_asked drive key rules w = record { disk = drive_on drive w; hook = w.hook; key = key; rules = rules }
 
 -- the fault of a board, where a look failed
@@ -97,14 +97,14 @@ pub record Look : Type 0 where
   pub key : PackedKey
   pub rules : KernelRules
 
-abbrev pub asked_at : Look → World → kernels.Drive
+abbrev pub asked_at : Look → World → kernels.WalkQuestion
 asked_at look w = drive_asked look.drive look.key look.rules w
 
 -- no table
 abbrev pub no_table : PartitionTable
 no_table = record { guid = []; first_usable = 0; last_usable = 0; entries = [] }
 
-abbrev pub table_by : kernels.Drive → Option PartitionTable → PartitionTable
+abbrev pub table_by : kernels.WalkQuestion → Option PartitionTable → PartitionTable
 table_by d None = no_table
 table_by d (Some table) = table_walked d table
 

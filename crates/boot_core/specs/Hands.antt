@@ -57,11 +57,11 @@ kernel_in hand = record {
 }
 
 -- what is asked of the kernels of its drive
-abbrev pub drive_by : Switches → Found → World → Hand → kernels.Drive
+abbrev pub drive_by : Switches → Found → World → Hand → kernels.WalkQuestion
 drive_by sw found w hand = drive_asked hand.drive (kernel_key found w hand.slot) (rules_of sw found hand.mode) w
 
 -- The kernel is that of an entry of the drive's table, and its chain is accepted.
-pub record HoldsKernel (d : kernels.Drive) (hand : Hand) (bytes : List ℕ) : Type 0 where
+pub record HoldsKernel (d : kernels.WalkQuestion) (hand : Hand) (bytes : List ℕ) : Type 0 where
   pub table : PartitionTable
   pub there : table_on d.disk.medium ≡ Some table
   pub taken : IsKernelOf d table.entries (hand.partition - 1) (kernel_in hand) bytes

@@ -28,7 +28,7 @@ use Rattle.chain_core.specs.declared.slot_fault.SlotFault.{SlotFault}
 use Rattle.chain_core.specs.declared.slot_fault.SlotOk.{SlotOk}
 use Rattle.chain_core.proofs.Keys.{Known, data_key_known, data_key_range, known_fits}
 use Rattle.chain_core.proofs.PreambleAnswers.{preamble_answer}
-use Rattle.chain_core.proofs.Slots.{Found, Parts, chain_of, no_older, nowhere}
+use Rattle.chain_core.proofs.Slots.{NoFaults, Parts, chain_of, no_older, nowhere}
 
 -- ---- answers
 
@@ -79,12 +79,12 @@ slot_failed q head flash flash' hook hook' out failure looks asked filled unaske
 -- What is known of a good slot, by the bytes that were read.
 pub record Good (q : SlotQuestion) (flash : FlashState) (hook : HookState) (out : List ℕ) (ok : SlotOk) : Type 0 where
   pub parts : Parts q
-  pub found : IsTrue flash.medium.told → IsTrue hook.told → Found q
+  pub found : IsTrue flash.medium.told → IsTrue hook.told → NoFaults q
   pub is : ok ≡ slot_ok q
   pub many : length out ≡ ok.body_len
   pub filled : IsTrue flash.medium.told → out ≡ slot_body q
 
-not_older : (q : SlotQuestion) (ok : SlotOk) → ok ≡ slot_ok q → Found q → IsTrue q.rollback → q.stored ≤ ok.version
+not_older : (q : SlotQuestion) (ok : SlotOk) → ok ≡ slot_ok q → NoFaults q → IsTrue q.rollback → q.stored ≤ ok.version
 not_older q ok is found checked = subst (λ (o : SlotOk). q.stored ≤ o.version) (sym is) (no_older firmware_preamble (asked_of_preamble q) found.preamble checked)
 
 pub slot_good : (q : SlotQuestion) (head : List ℕ) (flash flash' : FlashState) (hook hook' : HookState) (out : List ℕ) (ok : SlotOk) → Looks flash flash' false → Asked hook hook' false

@@ -136,7 +136,7 @@ accepts_body q e known long =
     }
 
 -- What the checks of the parts found.
-pub record Found (q : SlotQuestion) : Type 0 where
+pub record NoFaults (q : SlotQuestion) : Type 0 where
   pub keyblock : first_fault keyblock_table (asked_of_keyblock q) ≡ None
   pub preamble : first_fault preamble_table (asked_of_preamble q) ≡ None
   pub body : first_fault body_table (asked_of_body q) ≡ None
@@ -150,7 +150,7 @@ pub record Parts (q : SlotQuestion) : Type 0 where
   pub preamble_fits : FwPreambleFits (asked_of_preamble q).bytes (slot_preamble q)
   pub preamble_signed : FwPreambleIsSigned (slot_preamble q)
 
-pub chain_of : (q : SlotQuestion) → Parts q → Found q → FirmwareChain q
+pub chain_of : (q : SlotQuestion) → Parts q → NoFaults q → FirmwareChain q
 chain_of q parts found = record {
   keyblock = accepts_keyblock (asked_of_keyblock q) found.keyblock parts.root parts.keyblock_fits;
   keyblock_signed = parts.keyblock_signed;

@@ -16,15 +16,6 @@ use Rattle.chain_core.specs.Hashing.{message_digest}
 abbrev pub key_of : PackedKey → Key
 key_of packed = record { algorithm = packed.algorithm; version = packed.version; bytes = take packed.size packed.bytes }
 
--- A key that can be used.
-pub record IsUsable (key : PackedKey) : Type 0 where
-  -- its algorithm is known
-  pub algorithm : key.algorithm ≤ LAST_ALGORITHM
-  -- and is not one of SHA-1
-  pub not_sha1 : is_sha1 key.algorithm ≡ false
-  -- and the key has the algorithm's length
-  pub size : key.size ≡ key_length key.algorithm
-
 -- ---- one signature
 
 -- the row is that of an algorithm's number, a key, a message's digest and a signature

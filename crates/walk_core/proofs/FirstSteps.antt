@@ -16,7 +16,7 @@ use Rattle.kernel_core.specs.Heads.{head_ok}
 use Rattle.kernel_core.specs.declared.head_fault.HeadOk.{HeadOk}
 use Rattle.kernel_core.proofs.DiskLooks.{looks_none, looks_more}
 use Rattle.walk_core.specs.Candidates.{is_candidate, rank_in}
-use Rattle.walk_core.specs.Kernels.{Drive, asked_of_head}
+use Rattle.walk_core.specs.Kernels.{WalkQuestion, asked_of_head}
 use Rattle.walk_core.specs.Chosen.{sectors_in, head_is_good, kernel_is_good, is_good_candidate, comes_before}
 use Rattle.walk_core.specs.Walks.{is_reached, body_sectors_in}
 use Rattle.walk_core.specs.Steps.{entry_at, entry_in_order, sectors_of_rank, most_sectors_of_rank, FindsFirst}
@@ -24,14 +24,14 @@ use Rattle.walk_core.proofs.OrderFacts.{Ordered, HasPlace, place_before, rank_re
 use Rattle.walk_core.proofs.SameDrives.{KernelAfter}
 
 -- What is known after so many candidates, none of which was good.
-pub record GoneThrough (d : Drive) (entries ranks : List ℕ) (place : ℕ) (disk' : DiskState) (hook' : HookState) : Type 0 where
+pub record GoneThrough (d : WalkQuestion) (entries ranks : List ℕ) (place : ℕ) (disk' : DiskState) (hook' : HookState) : Type 0 where
   pub looks : LooksAtDisk (sum_by (most_sectors_of_rank d entries) (take place ranks)) d.disk disk' false
   pub asked : Asked d.hook hook' false
   pub reads : IsTrue d.disk.medium.told → IsTrue d.hook.told
       → disk'.medium.sectors_read ≤ d.disk.medium.sectors_read + sum_by (sectors_of_rank d entries) (take place ranks)
   pub bad : IsTrue d.disk.medium.told → IsTrue d.hook.told → (p : ℕ) → p < place → kernel_is_good d entries (entry_in_order ranks p) ≡ false
 
-pub gone_none : (d : Drive) (entries ranks : List ℕ) → GoneThrough d entries ranks 0 d.disk d.hook
+pub gone_none : (d : WalkQuestion) (entries ranks : List ℕ) → GoneThrough d entries ranks 0 d.disk d.hook
 gone_none d entries ranks = record {
   looks = looks_none 0 d.disk;
   asked = asked_none d.hook;
@@ -46,7 +46,7 @@ pub has_entry : (entries ranks : List ℕ) (k : ℕ) (has : HasPlace entries ran
 has_entry entries ranks k has below = ap entry_at has.is ∙ rank_rest entries k below
 
 -- no good candidate is before it
-reached_here : (d : Drive) (entries ranks : List ℕ) (o : Ordered entries ranks) (place : ℕ) → place < length ranks
+reached_here : (d : WalkQuestion) (entries ranks : List ℕ) (o : Ordered entries ranks) (place : ℕ) → place < length ranks
     → ((p : ℕ) → p < place → kernel_is_good d entries (entry_in_order ranks p) ≡ false)
     → (j : ℕ) → j < 128 → (b : Bool) → (is_good_candidate d entries j && comes_before entries j (entry_in_order ranks place)) ≡ b → not b ≡ true
 reached_here d entries ranks o place inside bad j below false is = refl
@@ -60,7 +60,7 @@ reached_here d entries ranks o place inside bad j below true is =
     let entry : entry_in_order ranks has.place ≡ j = has_entry entries ranks j has below in
     absurd (true≢false (sym good.1 ∙ ap (kernel_is_good d entries) (sym entry) ∙ bad has.place earlier))
 
-pub reached : (d : Drive) (entries ranks : List ℕ) (o : Ordered entries ranks) (place : ℕ) → place < length ranks
+pub reached : (d : WalkQuestion) (entries ranks : List ℕ) (o : Ordered entries ranks) (place : ℕ) → place < length ranks
     → ((p : ℕ) → p < place → kernel_is_good d entries (entry_in_order ranks p) ≡ false) → is_reached d entries (entry_in_order ranks place) ≡ true
 reached d entries ranks o place inside bad =
     all_below-always 128 (λ j. not (is_good_candidate d entries j && comes_before entries j (entry_in_order ranks place)))
@@ -74,7 +74,7 @@ within_body : (b : Bool) (more was now : ℕ) → b ≡ true → now ≤ was + (
 within_body true more was now e le = le
 within_body false more was now e le = absurd (false≢true e)
 
-one_reads : (d : Drive) (entries ranks : List ℕ) (place was now : ℕ) (good : Bool) → head_is_good d entries (entry_in_order ranks place) ≡ good
+one_reads : (d : WalkQuestion) (entries ranks : List ℕ) (place was now : ℕ) (good : Bool) → head_is_good d entries (entry_in_order ranks place) ≡ good
     → is_reached d entries (entry_in_order ranks place) ≡ true
     → (head_is_good d entries (entry_in_order ranks place) ≡ false → now ≤ was + 128)
     → now ≤ was + (128 + body_sectors_in d entries (entry_in_order ranks place))
@@ -94,13 +94,13 @@ sums a b c m n s one two e = omega (arith, one, two, e)
 up_to : (a b m n : ℕ) → a ≤ b + m → m ≤ n → a ≤ b + n
 up_to a b m n one two = omega (arith, one, two)
 
-pub record StepOf (d : Drive) (entries ranks : List ℕ) (place : ℕ) (disk'' : DiskState) (hook'' : HookState) (body : List ℕ) (result : Result (Option HeadOk) Failure) : Type 0 where
+pub record StepOf (d : WalkQuestion) (entries ranks : List ℕ) (place : ℕ) (disk'' : DiskState) (hook'' : HookState) (body : List ℕ) (result : Result (Option HeadOk) Failure) : Type 0 where
   pub looks : LooksAtDisk (sum_by (most_sectors_of_rank d entries) (take (place + 1) ranks)) d.disk disk'' (store_failed result)
   pub asked : Asked d.hook hook'' (hook_failed result)
   pub reads : IsTrue d.disk.medium.told → IsTrue d.hook.told
       → disk''.medium.sectors_read ≤ d.disk.medium.sectors_read + sum_by (sectors_of_rank d entries) (take (place + 1) ranks)
 
-pub step_of : (d : Drive) (entries ranks : List ℕ) (place : ℕ) (disk' disk'' : DiskState) (hook' hook'' : HookState) (body : List ℕ) (result : Result (Option HeadOk) Failure)
+pub step_of : (d : WalkQuestion) (entries ranks : List ℕ) (place : ℕ) (disk' disk'' : DiskState) (hook' hook'' : HookState) (body : List ℕ) (result : Result (Option HeadOk) Failure)
     → Ordered entries ranks → place < length ranks → GoneThrough d entries ranks place disk' hook'
     → KernelAfter (sum_by (most_sectors_of_rank d entries) (take place ranks)) d (first_in entries (entry_in_order ranks place)) (sectors_in entries (entry_in_order ranks place)) disk' disk'' hook'' body result
     → StepOf d entries ranks place disk'' hook'' body result
@@ -130,7 +130,7 @@ some_here : (good : Bool) (head head' : HeadOk) → Some head' ≡ cond good (So
 some_here true head head' e = refl
 some_here false head head' e = absurd (true≢false (ap (λ (o : Option HeadOk). is_some o) e))
 
-bad_too : (d : Drive) (entries ranks : List ℕ) (place p : ℕ) → p < place + 1 → ((q : ℕ) → q < place → kernel_is_good d entries (entry_in_order ranks q) ≡ false)
+bad_too : (d : WalkQuestion) (entries ranks : List ℕ) (place p : ℕ) → p < place + 1 → ((q : ℕ) → q < place → kernel_is_good d entries (entry_in_order ranks q) ≡ false)
     → kernel_is_good d entries (entry_in_order ranks place) ≡ false → kernel_is_good d entries (entry_in_order ranks p) ≡ false
 bad_too d entries ranks place p before bad here =
     elim (last_or_before p place before) [
@@ -139,7 +139,7 @@ bad_too d entries ranks place p before bad here =
     ]
 
 -- one that is not good
-pub gone_more : (d : Drive) (entries ranks : List ℕ) (place : ℕ) (disk' disk'' : DiskState) (hook' hook'' : HookState) (body : List ℕ)
+pub gone_more : (d : WalkQuestion) (entries ranks : List ℕ) (place : ℕ) (disk' disk'' : DiskState) (hook' hook'' : HookState) (body : List ℕ)
     → Ordered entries ranks → place < length ranks → GoneThrough d entries ranks place disk' hook'
     → KernelAfter (sum_by (most_sectors_of_rank d entries) (take place ranks)) d (first_in entries (entry_in_order ranks place)) (sectors_in entries (entry_in_order ranks place)) disk' disk'' hook'' body (Ok None)
     → GoneThrough d entries ranks (place + 1) disk'' hook''
@@ -157,7 +157,7 @@ gone_more d entries ranks place disk' disk'' hook' hook'' body o inside gone aft
 -- ---- the exits
 
 -- the first good one
-pub first_taken : (d : Drive) (entries ranks : List ℕ) (place : ℕ) (disk' disk'' : DiskState) (hook' hook'' : HookState) (body : List ℕ) (head : HeadOk)
+pub first_taken : (d : WalkQuestion) (entries ranks : List ℕ) (place : ℕ) (disk' disk'' : DiskState) (hook' hook'' : HookState) (body : List ℕ) (head : HeadOk)
     → Ordered entries ranks → place < length ranks → GoneThrough d entries ranks place disk' hook'
     → KernelAfter (sum_by (most_sectors_of_rank d entries) (take place ranks)) d (first_in entries (entry_in_order ranks place)) (sectors_in entries (entry_in_order ranks place)) disk' disk'' hook'' body (Ok (Some head))
     → FindsFirst d entries ranks disk'' hook'' body (Ok (Some (record { place = place; head = head })))
@@ -177,7 +177,7 @@ first_taken d entries ranks place disk' disk'' hook' hook'' body head o inside g
     }
 
 -- a failure
-pub first_failed : (d : Drive) (entries ranks : List ℕ) (place : ℕ) (disk' disk'' : DiskState) (hook' hook'' : HookState) (body : List ℕ) (failure : Failure)
+pub first_failed : (d : WalkQuestion) (entries ranks : List ℕ) (place : ℕ) (disk' disk'' : DiskState) (hook' hook'' : HookState) (body : List ℕ) (failure : Failure)
     → Ordered entries ranks → place < length ranks → GoneThrough d entries ranks place disk' hook'
     → KernelAfter (sum_by (most_sectors_of_rank d entries) (take place ranks)) d (first_in entries (entry_in_order ranks place)) (sectors_in entries (entry_in_order ranks place)) disk' disk'' hook'' body (Err failure)
     → FindsFirst d entries ranks disk'' hook'' body (Err failure)
@@ -194,7 +194,7 @@ first_failed d entries ranks place disk' disk'' hook' hook'' body failure o insi
     }
 
 -- the end
-pub first_none : (d : Drive) (entries ranks : List ℕ) (place : ℕ) (disk' : DiskState) (hook' : HookState) (body : List ℕ)
+pub first_none : (d : WalkQuestion) (entries ranks : List ℕ) (place : ℕ) (disk' : DiskState) (hook' : HookState) (body : List ℕ)
     → place ≡ length ranks → GoneThrough d entries ranks place disk' hook' → FindsFirst d entries ranks disk' hook' body (Ok None)
 first_none d entries ranks place disk' hook' body end gone =
     let whole : take place ranks ≡ ranks = ap (λ (n : ℕ). take n ranks) end ∙ take_all (length ranks) ranks (omega arith) in

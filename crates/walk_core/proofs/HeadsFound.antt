@@ -12,7 +12,7 @@ use Rattle.kernel_core.specs.KernelBodies.{LooksAtDisk}
 use Rattle.kernel_core.specs.declared.head_fault.HeadFault.{HeadFault}
 use Rattle.kernel_core.specs.declared.head_fault.HeadOk.{HeadOk}
 use Rattle.kernel_core.proofs.DiskLooks.{looks_none}
-use Rattle.walk_core.specs.Kernels.{Drive, head_bytes, asked_of_head, has_good_head, head_in}
+use Rattle.walk_core.specs.Kernels.{WalkQuestion, head_bytes, asked_of_head, has_good_head, head_in}
 use Rattle.walk_core.specs.Examined.{ExaminesHead}
 
 -- ---- whether a head is good
@@ -32,31 +32,31 @@ a_fault long fault what e is = rw (e, is) refl
 too_short : (long good : Bool) → long ≡ false → (long && good) ≡ false
 too_short long good e = rw e refl
 
-good-none : (d : Drive) (first sectors : ℕ) → 128 ≤ sectors → head_fault (asked_of_head d first) ≡ None → has_good_head d first sectors ≡ true
+good-none : (d : WalkQuestion) (first sectors : ℕ) → 128 ≤ sectors → head_fault (asked_of_head d first) ≡ None → has_good_head d first sectors ≡ true
 unfolding has_good_head
 good-none d first sectors long none = no_fault (nat_le 128 sectors) (head_fault (asked_of_head d first)) (le-test 128 sectors long) none
 
-bad-fault : (d : Drive) (first sectors : ℕ) (what : HeadFault) → 128 ≤ sectors → head_fault (asked_of_head d first) ≡ Some what → has_good_head d first sectors ≡ false
+bad-fault : (d : WalkQuestion) (first sectors : ℕ) (what : HeadFault) → 128 ≤ sectors → head_fault (asked_of_head d first) ≡ Some what → has_good_head d first sectors ≡ false
 unfolding has_good_head
 bad-fault d first sectors what long is = a_fault (nat_le 128 sectors) (head_fault (asked_of_head d first)) what (le-test 128 sectors long) is
 
-bad-short : (d : Drive) (first sectors : ℕ) → sectors < 128 → has_good_head d first sectors ≡ false
+bad-short : (d : WalkQuestion) (first sectors : ℕ) → sectors < 128 → has_good_head d first sectors ≡ false
 unfolding has_good_head
 bad-short d first sectors short = too_short (nat_le 128 sectors) (not (is_some (head_fault (asked_of_head d first)))) (gt-test 128 sectors short)
 
-in-good : (d : Drive) (first sectors : ℕ) → has_good_head d first sectors ≡ true → head_in d first sectors ≡ Some (head_ok (asked_of_head d first))
+in-good : (d : WalkQuestion) (first sectors : ℕ) → has_good_head d first sectors ≡ true → head_in d first sectors ≡ Some (head_ok (asked_of_head d first))
 in-good d first sectors good = cond-true (has_good_head d first sectors) (Some (head_ok (asked_of_head d first))) None good
 
-in-bad : (d : Drive) (first sectors : ℕ) → has_good_head d first sectors ≡ false → head_in d first sectors ≡ None
+in-bad : (d : WalkQuestion) (first sectors : ℕ) → has_good_head d first sectors ≡ false → head_in d first sectors ≡ None
 in-bad d first sectors bad = cond-false (has_good_head d first sectors) (Some (head_ok (asked_of_head d first))) None bad
 
 -- ---- the bytes that were read
 
-pub record HeadRead (d : Drive) (first : ℕ) (disk' : DiskState) (vblock : List ℕ) : Type 0 where
+pub record HeadRead (d : WalkQuestion) (first : ℕ) (disk' : DiskState) (vblock : List ℕ) : Type 0 where
   pub looks : LooksAtDisk 128 d.disk disk' false
   pub filled : IsTrue d.disk.medium.told → vblock ≡ head_bytes d first
 
-pub head_read : {E : Type 0} (d : Drive) (first : ℕ) (disk' : DiskState) (vblock : List ℕ) (read : Result Unit E) → is_err read ≡ false
+pub head_read : {E : Type 0} (d : WalkQuestion) (first : ℕ) (disk' : DiskState) (vblock : List ℕ) (read : Result Unit E) → is_err read ≡ false
     → LooksAtDisk 128 d.disk disk' (is_err read) → (IsTrue disk'.medium.told → OnOk read (vblock ≡ range disk'.medium.bytes (first * 512) 65536))
     → HeadRead d first disk' vblock
 head_read d first disk' vblock (Ok x) e looks filled = record {
@@ -67,7 +67,7 @@ head_read d first disk' vblock (Err x) e looks filled = absurd (true≢false e)
 
 -- ---- the exits
 
-pub short_head : (d : Drive) (first sectors : ℕ) (vblock : List ℕ) → sectors < 128 → ExaminesHead d first sectors d.disk d.hook vblock (Ok None)
+pub short_head : (d : WalkQuestion) (first sectors : ℕ) (vblock : List ℕ) → sectors < 128 → ExaminesHead d first sectors d.disk d.hook vblock (Ok None)
 short_head d first sectors vblock short = record {
   looks = looks_none 128 d.disk;
   asked = asked_none d.hook;
@@ -75,7 +75,7 @@ short_head d first sectors vblock short = record {
   found = tt;
 }
 
-pub good_head : {E : Type 0} (d : Drive) (first sectors : ℕ) (disk' : DiskState) (hook' : HookState) (vblock : List ℕ) (head : HeadOk) (result : Result (Result HeadOk HeadFault) E)
+pub good_head : {E : Type 0} (d : WalkQuestion) (first sectors : ℕ) (disk' : DiskState) (hook' : HookState) (vblock : List ℕ) (head : HeadOk) (result : Result (Result HeadOk HeadFault) E)
     → 128 ≤ sectors → HeadRead d first disk' vblock
     → VerifiesHead (head_question vblock d.key d.rules d.hook) d.hook hook' result → result ≡ Ok (Ok head)
     → ExaminesHead d first sectors disk' hook' vblock (Ok (Some head))
@@ -98,7 +98,7 @@ good_head d first sectors disk' hook' vblock head result long read verifies is =
       };
     }
 
-pub bad_head : {E : Type 0} (d : Drive) (first sectors : ℕ) (disk' : DiskState) (hook' : HookState) (vblock : List ℕ) (fault : HeadFault) (result : Result (Result HeadOk HeadFault) E)
+pub bad_head : {E : Type 0} (d : WalkQuestion) (first sectors : ℕ) (disk' : DiskState) (hook' : HookState) (vblock : List ℕ) (fault : HeadFault) (result : Result (Result HeadOk HeadFault) E)
     → 128 ≤ sectors → HeadRead d first disk' vblock
     → VerifiesHead (head_question vblock d.key d.rules d.hook) d.hook hook' result → result ≡ Ok (Err fault)
     → ExaminesHead d first sectors disk' hook' vblock (Ok None)

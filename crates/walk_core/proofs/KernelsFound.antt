@@ -16,7 +16,7 @@ use Rattle.kernel_core.specs.Heads.{head_key, head_preamble, head_ok}
 use Rattle.kernel_core.specs.KernelBodies.{LooksAtDisk, read_sectors, kernel_body_question, kernel_body, VerifiesKernelBody}
 use Rattle.kernel_core.specs.declared.head_fault.HeadOk.{HeadOk}
 use Rattle.kernel_core.proofs.DiskLooks.{looks_then}
-use Rattle.walk_core.specs.Kernels.{Drive, head_bytes, asked_of_head, has_good_head, body_fault, is_good, kernel_in}
+use Rattle.walk_core.specs.Kernels.{WalkQuestion, head_bytes, asked_of_head, has_good_head, body_fault, is_good, good_kernel_in}
 use Rattle.walk_core.specs.Examined.{ExaminesHead, ExaminesKernel, body_sectors}
 
 -- ---- whether a kernel is good
@@ -34,10 +34,10 @@ no_head good rest e = rw e refl
 no_body : (good : Bool) (fault : Option BodyFault) (what : BodyFault) → good ≡ true → fault ≡ Some what → (good && not (is_some fault)) ≡ false
 no_body good fault what e is = rw (e, is) refl
 
-in_good : (d : Drive) (first sectors : ℕ) → is_good d first sectors ≡ true → kernel_in d first sectors ≡ Some (head_ok (asked_of_head d first))
+in_good : (d : WalkQuestion) (first sectors : ℕ) → is_good d first sectors ≡ true → good_kernel_in d first sectors ≡ Some (head_ok (asked_of_head d first))
 in_good d first sectors good = cond-true (is_good d first sectors) (Some (head_ok (asked_of_head d first))) None good
 
-in_bad : (d : Drive) (first sectors : ℕ) → is_good d first sectors ≡ false → kernel_in d first sectors ≡ None
+in_bad : (d : WalkQuestion) (first sectors : ℕ) → is_good d first sectors ≡ false → good_kernel_in d first sectors ≡ None
 in_bad d first sectors bad = cond-false (is_good d first sectors) (Some (head_ok (asked_of_head d first))) None bad
 
 -- ---- what is read
@@ -59,7 +59,7 @@ same_sectors : (sectors : ℕ) (head head' : HeadOk) → head ≡ head' → 128 
 same_sectors sectors head head' same = subst (λ (h : HeadOk). 128 + read_sectors sectors head.body_at head.body_len ≤ 128 + read_sectors sectors h.body_at h.body_len) same (omega arith)
 
 -- what is asked of a body after the head was read is what the drive tells
-same_question : (d : Drive) (first sectors : ℕ) (disk' : DiskState) (hook' : HookState) (vblock : List ℕ) (head : HeadOk)
+same_question : (d : WalkQuestion) (first sectors : ℕ) (disk' : DiskState) (hook' : HookState) (vblock : List ℕ) (head : HeadOk)
     → vblock ≡ head_bytes d first → head ≡ head_ok (asked_of_head d first) → disk'.medium.bytes ≡ d.disk.medium.bytes → hook'.rows ≡ d.hook.rows
     → kernel_body_question vblock head first sectors disk' hook' ≡ kernel_body_question (head_bytes d first) (head_ok (asked_of_head d first)) first sectors d.disk d.hook
 same_question d first sectors disk' hook' vblock head filled ok bytes rows =
@@ -68,25 +68,14 @@ same_question d first sectors disk' hook' vblock head filled ok bytes rows =
     ∙ ap (λ (b : List ℕ). kernel_body_question (head_bytes d first) (head_ok (asked_of_head d first)) first sectors (record d.disk { medium = record d.disk.medium { bytes = b } }) hook') bytes
     ∙ ap (λ (r : List HookRow). kernel_body_question (head_bytes d first) (head_ok (asked_of_head d first)) first sectors d.disk (record d.hook { rows = r })) rows
 
-fault_is : (d : Drive) (first sectors : ℕ) (fault : Option BodyFault) (q : BodyQuestion) → q ≡ kernel_body_question (head_bytes d first) (head_ok (asked_of_head d first)) first sectors d.disk d.hook
+fault_is : (d : WalkQuestion) (first sectors : ℕ) (fault : Option BodyFault) (q : BodyQuestion) → q ≡ kernel_body_question (head_bytes d first) (head_ok (asked_of_head d first)) first sectors d.disk d.hook
     → fault ≡ first_fault body_table q → body_fault d first sectors ≡ fault
 unfolding body_fault
 fault_is d first sectors fault q same is = sym (is ∙ ap (λ (asked : BodyQuestion). first_fault body_table asked) same)
 
 -- ---- the exits
 
-pub no_good_head : (d : Drive) (first sectors : ℕ) (disk' : DiskState) (hook' : HookState) (vblock body : List ℕ)
-    → ExaminesHead d first sectors disk' hook' vblock (Ok None) → ExaminesKernel d first sectors disk' hook' body (Ok None)
-no_good_head d first sectors disk' hook' vblock body exam = record {
-  looks = looks_told 128 (128 + body_sectors d first sectors) d.disk disk' false (λ t. omega arith) exam.looks;
-  head_alone = λ told told' bad. exam.looks.no_more told;
-  asked = exam.asked;
-  kernel = λ told told'. sym (in_bad d first sectors (no_head (has_good_head d first sectors) (not (is_some (body_fault d first sectors)))
-      (none_bad (has_good_head d first sectors) (head_ok (asked_of_head d first)) (exam.head told told'))));
-  found = tt;
-}
-
-pub head_failed : (d : Drive) (first sectors : ℕ) (disk' : DiskState) (hook' : HookState) (vblock body : List ℕ) (failure : Failure)
+pub head_failed : (d : WalkQuestion) (first sectors : ℕ) (disk' : DiskState) (hook' : HookState) (vblock body : List ℕ) (failure : Failure)
     → ExaminesHead d first sectors disk' hook' vblock (Err failure) → ExaminesKernel d first sectors disk' hook' body (Err failure)
 head_failed d first sectors disk' hook' vblock body failure exam = record {
   looks = looks_told 128 (128 + body_sectors d first sectors) d.disk disk' (store_failed {T = Option HeadOk} (Err failure)) (λ t. omega arith) exam.looks;
@@ -97,7 +86,7 @@ head_failed d first sectors disk' hook' vblock body failure exam = record {
 }
 
 -- the head is good, and the body was looked at
-both_looks : (d : Drive) (first sectors : ℕ) (disk' disk'' : DiskState) (hook' hook'' : HookState) (vblock body : List ℕ) (head : HeadOk) (result : Result (Option BodyFault) Failure)
+both_looks : (d : WalkQuestion) (first sectors : ℕ) (disk' disk'' : DiskState) (hook' hook'' : HookState) (vblock body : List ℕ) (head : HeadOk) (result : Result (Option BodyFault) Failure)
     → ExaminesHead d first sectors disk' hook' vblock (Ok (Some head)) → VerifiesKernelBody vblock head first sectors disk' disk'' hook' hook'' body result
     → LooksAtDisk (128 + body_sectors d first sectors) d.disk disk'' (store_failed result)
 both_looks d first sectors disk' disk'' hook' hook'' vblock body head result exam verifies =
@@ -105,12 +94,12 @@ both_looks d first sectors disk' disk'' hook' hook'' vblock body head result exa
     (λ t. same_sectors sectors head (head_ok (asked_of_head d first)) (exam.found.ok t))
     (looks_then 128 (read_sectors sectors head.body_at head.body_len) d.disk disk' disk'' (store_failed result) exam.looks verifies.looks)
 
-both_asked : (d : Drive) (first sectors : ℕ) (disk' disk'' : DiskState) (hook' hook'' : HookState) (vblock body : List ℕ) (head : HeadOk) (result : Result (Option BodyFault) Failure)
+both_asked : (d : WalkQuestion) (first sectors : ℕ) (disk' disk'' : DiskState) (hook' hook'' : HookState) (vblock body : List ℕ) (head : HeadOk) (result : Result (Option BodyFault) Failure)
     → ExaminesHead d first sectors disk' hook' vblock (Ok (Some head)) → VerifiesKernelBody vblock head first sectors disk' disk'' hook' hook'' body result
     → Asked d.hook hook'' (hook_failed result)
 both_asked d first sectors disk' disk'' hook' hook'' vblock body head result exam verifies = asked_then d.hook hook' hook'' (hook_failed result) exam.asked verifies.asked
 
-pub body_failed : (d : Drive) (first sectors : ℕ) (disk' disk'' : DiskState) (hook' hook'' : HookState) (vblock body : List ℕ) (head : HeadOk) (failure : Failure)
+pub body_failed : (d : WalkQuestion) (first sectors : ℕ) (disk' disk'' : DiskState) (hook' hook'' : HookState) (vblock body : List ℕ) (head : HeadOk) (failure : Failure)
     → ExaminesHead d first sectors disk' hook' vblock (Ok (Some head)) → VerifiesKernelBody vblock head first sectors disk' disk'' hook' hook'' body (Err failure)
     → ExaminesKernel d first sectors disk'' hook'' body (Err failure)
 body_failed d first sectors disk' disk'' hook' hook'' vblock body head failure exam verifies = record {
@@ -122,7 +111,7 @@ body_failed d first sectors disk' disk'' hook' hook'' vblock body head failure e
 }
 
 -- the fault of the body is what the table finds
-found_fault : (d : Drive) (first sectors : ℕ) (disk' disk'' : DiskState) (hook' hook'' : HookState) (vblock body : List ℕ) (head : HeadOk) (fault : Option BodyFault)
+found_fault : (d : WalkQuestion) (first sectors : ℕ) (disk' disk'' : DiskState) (hook' hook'' : HookState) (vblock body : List ℕ) (head : HeadOk) (fault : Option BodyFault)
     → ExaminesHead d first sectors disk' hook' vblock (Ok (Some head)) → VerifiesKernelBody vblock head first sectors disk' disk'' hook' hook'' body (Ok fault)
     → IsTrue d.disk.medium.told → IsTrue d.hook.told → body_fault d first sectors ≡ fault
 found_fault d first sectors disk' disk'' hook' hook'' vblock body head fault exam verifies told told' =
@@ -130,7 +119,7 @@ found_fault d first sectors disk' disk'' hook' hook'' vblock body head fault exa
     (same_question d first sectors disk' hook' vblock head (exam.found.filled told) (exam.found.ok told) (exam.looks.bytes told) exam.asked.rows)
     (verifies.fault (exam.looks.told ∙ told) (exam.asked.told ∙ told'))
 
-pub bad_body : (d : Drive) (first sectors : ℕ) (disk' disk'' : DiskState) (hook' hook'' : HookState) (vblock body : List ℕ) (head : HeadOk) (fault : BodyFault)
+pub bad_body : (d : WalkQuestion) (first sectors : ℕ) (disk' disk'' : DiskState) (hook' hook'' : HookState) (vblock body : List ℕ) (head : HeadOk) (fault : BodyFault)
     → ExaminesHead d first sectors disk' hook' vblock (Ok (Some head)) → VerifiesKernelBody vblock head first sectors disk' disk'' hook' hook'' body (Ok (Some fault))
     → ExaminesKernel d first sectors disk'' hook'' body (Ok None)
 bad_body d first sectors disk' disk'' hook' hook'' vblock body head fault exam verifies = record {
@@ -143,7 +132,7 @@ bad_body d first sectors disk' disk'' hook' hook'' vblock body head fault exam v
 }
 
 -- the signature of the body is accepted for what the disk holds
-same_accepts : (d : Drive) (first sectors : ℕ) (disk' : DiskState) (hook' : HookState) (vblock : List ℕ) (head : HeadOk)
+same_accepts : (d : WalkQuestion) (first sectors : ℕ) (disk' : DiskState) (hook' : HookState) (vblock : List ℕ) (head : HeadOk)
     → vblock ≡ head_bytes d first → disk'.medium.bytes ≡ d.disk.medium.bytes → hook'.rows ≡ d.hook.rows
     → Accepts hook'.rows (head_key vblock) (head_preamble vblock).common.body_signature (kernel_body head first sectors disk'.medium)
     → Accepts d.hook.rows (head_key (head_bytes d first)) (head_preamble (head_bytes d first)).common.body_signature (kernel_body head first sectors d.disk.medium)
@@ -152,7 +141,7 @@ same_accepts d first sectors disk' hook' vblock head filled bytes rows accepts =
     (subst (λ (b : List ℕ). Accepts d.hook.rows (head_key vblock) (head_preamble vblock).common.body_signature (kernel_body head first sectors (record d.disk.medium { bytes = b }))) bytes
     (subst (λ (r : List HookRow). Accepts r (head_key vblock) (head_preamble vblock).common.body_signature (kernel_body head first sectors disk'.medium)) rows accepts))
 
-pub good_body : (d : Drive) (first sectors : ℕ) (disk' disk'' : DiskState) (hook' hook'' : HookState) (vblock body : List ℕ) (head : HeadOk)
+pub good_body : (d : WalkQuestion) (first sectors : ℕ) (disk' disk'' : DiskState) (hook' hook'' : HookState) (vblock body : List ℕ) (head : HeadOk)
     → ExaminesHead d first sectors disk' hook' vblock (Ok (Some head)) → VerifiesKernelBody vblock head first sectors disk' disk'' hook' hook'' body (Ok None)
     → ExaminesKernel d first sectors disk'' hook'' body (Ok (Some head))
 good_body d first sectors disk' disk'' hook' hook'' vblock body head exam verifies = record {

@@ -16,21 +16,21 @@ use Rattle.kernel_core.specs.HeadChecks.{head_question}
 use Rattle.kernel_core.specs.KernelBodies.{LooksAtDisk, read_sectors, kernel_body, kernel_body_question}
 use Rattle.kernel_core.specs.declared.head_fault.HeadOk.{HeadOk}
 use Rattle.kernel_core.proofs.DiskLooks.{looks_then}
-use Rattle.walk_core.specs.Kernels.{Drive, head_bytes, asked_of_head, has_good_head, head_in, body_fault, is_good, kernel_in}
+use Rattle.walk_core.specs.Kernels.{WalkQuestion, head_bytes, asked_of_head, has_good_head, head_in, body_fault, is_good, good_kernel_in}
 use Rattle.walk_core.specs.Examined.{ExaminesHead, ExaminesKernel, FoundKernel, body_sectors}
 
 -- the drive as disk and hook are now
-abbrev pub drive_now : Drive → DiskState → HookState → Drive
+abbrev pub drive_now : WalkQuestion → DiskState → HookState → WalkQuestion
 drive_now d disk' hook' = record { disk = disk'; hook = hook'; key = d.key; rules = d.rules }
 
 -- The same content.
-pub record SameContent (d : Drive) (disk' : DiskState) (hook' : HookState) : Type 0 where
+pub record SameContent (d : WalkQuestion) (disk' : DiskState) (hook' : HookState) : Type 0 where
   pub bytes : disk'.medium.bytes ≡ d.disk.medium.bytes
   pub told : disk'.medium.told ≡ d.disk.medium.told
   pub rows : hook'.rows ≡ d.hook.rows
   pub hook_told : hook'.told ≡ d.hook.told
 
-pub same_content : (n : ℕ) (d : Drive) (disk' : DiskState) (hook' : HookState) → LooksAtDisk n d.disk disk' false → Asked d.hook hook' false → SameContent d disk' hook'
+pub same_content : (n : ℕ) (d : WalkQuestion) (disk' : DiskState) (hook' : HookState) → LooksAtDisk n d.disk disk' false → Asked d.hook hook' false → SameContent d disk' hook'
 same_content n d disk' hook' looks asked = record {
   bytes = ap (λ (m : DiskMedium). m.bytes) (looks.kept refl);
   told = looks.told;
@@ -38,18 +38,18 @@ same_content n d disk' hook' looks asked = record {
   hook_told = asked.told;
 }
 
-pub asked_same : (d : Drive) (first : ℕ) (disk' : DiskState) (hook' : HookState) → SameContent d disk' hook' → asked_of_head (drive_now d disk' hook') first ≡ asked_of_head d first
+pub asked_same : (d : WalkQuestion) (first : ℕ) (disk' : DiskState) (hook' : HookState) → SameContent d disk' hook' → asked_of_head (drive_now d disk' hook') first ≡ asked_of_head d first
 asked_same d first disk' hook' same =
     ap (λ (b : List ℕ). head_question (range b (first * 512) 65536) d.key d.rules hook') same.bytes
     ∙ ap (λ (r : List HookRow). head_question (head_bytes d first) d.key d.rules (record d.hook { rows = r })) same.rows
 
-pub good_head_same : (d : Drive) (first sectors : ℕ) (disk' : DiskState) (hook' : HookState) → SameContent d disk' hook'
+pub good_head_same : (d : WalkQuestion) (first sectors : ℕ) (disk' : DiskState) (hook' : HookState) → SameContent d disk' hook'
     → has_good_head (drive_now d disk' hook') first sectors ≡ has_good_head d first sectors
 unfolding has_good_head
 good_head_same d first sectors disk' hook' same =
     ap (λ (q : HeadQuestion). nat_le 128 sectors && not (is_some (head_fault q))) (asked_same d first disk' hook' same)
 
-body_fault_same : (d : Drive) (first sectors : ℕ) (disk' : DiskState) (hook' : HookState) → SameContent d disk' hook'
+body_fault_same : (d : WalkQuestion) (first sectors : ℕ) (disk' : DiskState) (hook' : HookState) → SameContent d disk' hook'
     → body_fault (drive_now d disk' hook') first sectors ≡ body_fault d first sectors
 unfolding body_fault
 body_fault_same d first sectors disk' hook' same =
@@ -58,35 +58,35 @@ body_fault_same d first sectors disk' hook' same =
     ∙ ap (λ (b : List ℕ). first_fault body_table (kernel_body_question (head_bytes d first) (head_ok (asked_of_head d first)) first sectors (record d.disk { medium = record d.disk.medium { bytes = b } }) hook')) same.bytes
     ∙ ap (λ (r : List HookRow). first_fault body_table (kernel_body_question (head_bytes d first) (head_ok (asked_of_head d first)) first sectors d.disk (record d.hook { rows = r }))) same.rows
 
-pub good_same : (d : Drive) (first sectors : ℕ) (disk' : DiskState) (hook' : HookState) → SameContent d disk' hook'
+pub good_same : (d : WalkQuestion) (first sectors : ℕ) (disk' : DiskState) (hook' : HookState) → SameContent d disk' hook'
     → is_good (drive_now d disk' hook') first sectors ≡ is_good d first sectors
 good_same d first sectors disk' hook' same =
     let e = drive_now d disk' hook' in
     ap (λ (good : Bool). good && not (is_some (body_fault e first sectors))) (good_head_same d first sectors disk' hook' same)
     ∙ ap (λ fault. has_good_head d first sectors && not (is_some fault)) (body_fault_same d first sectors disk' hook' same)
 
-head_in_same : (d : Drive) (first sectors : ℕ) (disk' : DiskState) (hook' : HookState) → SameContent d disk' hook'
+head_in_same : (d : WalkQuestion) (first sectors : ℕ) (disk' : DiskState) (hook' : HookState) → SameContent d disk' hook'
     → head_in (drive_now d disk' hook') first sectors ≡ head_in d first sectors
 head_in_same d first sectors disk' hook' same =
     let e = drive_now d disk' hook' in
     ap (λ (good : Bool). if good then Some (head_ok (asked_of_head e first)) else None) (good_head_same d first sectors disk' hook' same)
     ∙ ap (λ (q : HeadQuestion). if has_good_head d first sectors then Some (head_ok q) else None) (asked_same d first disk' hook' same)
 
-kernel_in_same : (d : Drive) (first sectors : ℕ) (disk' : DiskState) (hook' : HookState) → SameContent d disk' hook'
-    → kernel_in (drive_now d disk' hook') first sectors ≡ kernel_in d first sectors
+kernel_in_same : (d : WalkQuestion) (first sectors : ℕ) (disk' : DiskState) (hook' : HookState) → SameContent d disk' hook'
+    → good_kernel_in (drive_now d disk' hook') first sectors ≡ good_kernel_in d first sectors
 kernel_in_same d first sectors disk' hook' same =
     let e = drive_now d disk' hook' in
     ap (λ (good : Bool). if good then Some (head_ok (asked_of_head e first)) else None) (good_same d first sectors disk' hook' same)
     ∙ ap (λ (q : HeadQuestion). if is_good d first sectors then Some (head_ok q) else None) (asked_same d first disk' hook' same)
 
-pub sectors_same : (d : Drive) (first sectors : ℕ) (disk' : DiskState) (hook' : HookState) → SameContent d disk' hook'
+pub sectors_same : (d : WalkQuestion) (first sectors : ℕ) (disk' : DiskState) (hook' : HookState) → SameContent d disk' hook'
     → body_sectors (drive_now d disk' hook') first sectors ≡ body_sectors d first sectors
 sectors_same d first sectors disk' hook' same =
     ap (λ (q : HeadQuestion). read_sectors sectors (head_ok q).body_at (head_ok q).body_len) (asked_same d first disk' hook' same)
 
 -- ---- what was found
 
-pub found_same : (d : Drive) (first sectors : ℕ) (disk' : DiskState) (hook' : HookState) (body : List ℕ) (head : HeadOk) → SameContent d disk' hook'
+pub found_same : (d : WalkQuestion) (first sectors : ℕ) (disk' : DiskState) (hook' : HookState) (body : List ℕ) (head : HeadOk) → SameContent d disk' hook'
     → FoundKernel (drive_now d disk' hook') first sectors body head → FoundKernel d first sectors body head
 found_same d first sectors disk' hook' body head same found =
     let e = drive_now d disk' hook' in
@@ -104,7 +104,7 @@ found_same d first sectors disk' hook' body head same found =
           (found.accepted (same.told ∙ told) (same.hook_told ∙ told'))));
     }
 
-any_found_same : (d : Drive) (first sectors : ℕ) (disk' : DiskState) (hook' : HookState) (body : List ℕ) (result : Result (Option HeadOk) Failure) → SameContent d disk' hook'
+any_found_same : (d : WalkQuestion) (first sectors : ℕ) (disk' : DiskState) (hook' : HookState) (body : List ℕ) (result : Result (Option HeadOk) Failure) → SameContent d disk' hook'
     → IfOk result (λ head. IfSome head (FoundKernel (drive_now d disk' hook') first sectors body)) → IfOk result (λ head. IfSome head (FoundKernel d first sectors body))
 any_found_same d first sectors disk' hook' body (Ok (Some head)) same found = found_same d first sectors disk' hook' body head same found
 any_found_same d first sectors disk' hook' body (Ok None) same found = tt
@@ -113,15 +113,15 @@ any_found_same d first sectors disk' hook' body (Err failure) same found = tt
 -- ---- an examination after others
 
 -- The kernel of a partition was examined after at most so many sectors were read.
-pub record KernelAfter (n : ℕ) (d : Drive) (first sectors : ℕ) (disk' disk'' : DiskState) (hook'' : HookState) (body : List ℕ) (result : Result (Option HeadOk) Failure) : Type 0 where
+pub record KernelAfter (n : ℕ) (d : WalkQuestion) (first sectors : ℕ) (disk' disk'' : DiskState) (hook'' : HookState) (body : List ℕ) (result : Result (Option HeadOk) Failure) : Type 0 where
   pub looks : LooksAtDisk (n + (128 + body_sectors d first sectors)) d.disk disk'' (store_failed result)
   pub asked : Asked d.hook hook'' (hook_failed result)
   pub head_alone : IsTrue d.disk.medium.told → IsTrue d.hook.told → has_good_head d first sectors ≡ false → disk''.medium.sectors_read ≤ disk'.medium.sectors_read + 128
   pub no_more : IsTrue d.disk.medium.told → disk''.medium.sectors_read ≤ disk'.medium.sectors_read + (128 + body_sectors d first sectors)
-  pub kernel : IsTrue d.disk.medium.told → IsTrue d.hook.told → IfOk result (λ head. head ≡ kernel_in d first sectors)
+  pub kernel : IsTrue d.disk.medium.told → IsTrue d.hook.told → IfOk result (λ head. head ≡ good_kernel_in d first sectors)
   pub found : IfOk result (λ head. IfSome head (FoundKernel d first sectors body))
 
-kernel_after : (n : ℕ) (d : Drive) (first sectors : ℕ) (disk' disk'' : DiskState) (hook' hook'' : HookState) (body : List ℕ) (result : Result (Option HeadOk) Failure)
+kernel_after : (n : ℕ) (d : WalkQuestion) (first sectors : ℕ) (disk' disk'' : DiskState) (hook' hook'' : HookState) (body : List ℕ) (result : Result (Option HeadOk) Failure)
     → LooksAtDisk n d.disk disk' false → Asked d.hook hook' false → ExaminesKernel (drive_now d disk' hook') first sectors disk'' hook'' body result
     → KernelAfter n d first sectors disk' disk'' hook'' body result
 kernel_after n d first sectors disk' disk'' hook' hook'' body result looks asked exam =
@@ -139,7 +139,7 @@ kernel_after n d first sectors disk' disk'' hook' hook'' body result looks asked
     }
 
 -- the same by the partition and the answer of a call
-pub kernel_after_call : (n : ℕ) (d : Drive) (first sectors first' sectors' : ℕ) (disk' disk'' : DiskState) (hook' hook'' : HookState) (body : List ℕ) (result result' : Result (Option HeadOk) Failure)
+pub kernel_after_call : (n : ℕ) (d : WalkQuestion) (first sectors first' sectors' : ℕ) (disk' disk'' : DiskState) (hook' hook'' : HookState) (body : List ℕ) (result result' : Result (Option HeadOk) Failure)
     → LooksAtDisk n d.disk disk' false → Asked d.hook hook' false → ExaminesKernel (drive_now d disk' hook') first' sectors' disk'' hook'' body result'
     → first' ≡ first → sectors' ≡ sectors → result' ≡ result → KernelAfter n d first sectors disk' disk'' hook'' body result
 kernel_after_call n d first sectors first' sectors' disk' disk'' hook' hook'' body result result' looks asked exam begins many is =
@@ -149,12 +149,12 @@ kernel_after_call n d first sectors first' sectors' disk' disk'' hook' hook'' bo
     (subst (λ (f : ℕ). ExaminesKernel (drive_now d disk' hook') f sectors' disk'' hook'' body result') begins exam)))
 
 -- The head of a partition was examined after at most so many sectors were read.
-pub record HeadAfter (n : ℕ) (d : Drive) (first sectors : ℕ) (disk'' : DiskState) (hook'' : HookState) (result : Result (Option HeadOk) Failure) : Type 0 where
+pub record HeadAfter (n : ℕ) (d : WalkQuestion) (first sectors : ℕ) (disk'' : DiskState) (hook'' : HookState) (result : Result (Option HeadOk) Failure) : Type 0 where
   pub looks : LooksAtDisk (n + 128) d.disk disk'' (store_failed result)
   pub asked : Asked d.hook hook'' (hook_failed result)
   pub head : IsTrue d.disk.medium.told → IsTrue d.hook.told → IfOk result (λ head. head ≡ head_in d first sectors)
 
-head_after : (n : ℕ) (d : Drive) (first sectors : ℕ) (disk' disk'' : DiskState) (hook' hook'' : HookState) (vblock : List ℕ) (result : Result (Option HeadOk) Failure)
+head_after : (n : ℕ) (d : WalkQuestion) (first sectors : ℕ) (disk' disk'' : DiskState) (hook' hook'' : HookState) (vblock : List ℕ) (result : Result (Option HeadOk) Failure)
     → LooksAtDisk n d.disk disk' false → Asked d.hook hook' false → ExaminesHead (drive_now d disk' hook') first sectors disk'' hook'' vblock result
     → HeadAfter n d first sectors disk'' hook'' result
 head_after n d first sectors disk' disk'' hook' hook'' vblock result looks asked exam =
@@ -166,7 +166,7 @@ head_after n d first sectors disk' disk'' hook' hook'' vblock result looks asked
     }
 
 -- the same by the partition and the answer of a call
-pub head_after_call : (n : ℕ) (d : Drive) (first sectors first' sectors' : ℕ) (disk' disk'' : DiskState) (hook' hook'' : HookState) (vblock : List ℕ) (result result' : Result (Option HeadOk) Failure)
+pub head_after_call : (n : ℕ) (d : WalkQuestion) (first sectors first' sectors' : ℕ) (disk' disk'' : DiskState) (hook' hook'' : HookState) (vblock : List ℕ) (result result' : Result (Option HeadOk) Failure)
     → LooksAtDisk n d.disk disk' false → Asked d.hook hook' false → ExaminesHead (drive_now d disk' hook') first' sectors' disk'' hook'' vblock result'
     → first' ≡ first → sectors' ≡ sectors → result' ≡ result → HeadAfter n d first sectors disk'' hook'' result
 head_after_call n d first sectors first' sectors' disk' disk'' hook' hook'' vblock result result' looks asked exam begins many is =

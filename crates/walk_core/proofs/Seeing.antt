@@ -24,7 +24,7 @@ use Rattle.chain_core.specs.declared.fault.Failure.{Failure}
 use Rattle.chain_core.specs.Bodies.{store_failed}
 use Rattle.chain_core.proofs.Said.{asked_none}
 use Rattle.kernel_core.specs.KernelBodies.{LooksAtDisk}
-use Rattle.walk_core.specs.Kernels.{Drive}
+use Rattle.walk_core.specs.Kernels.{WalkQuestion}
 use Rattle.walk_core.specs.Choice.{chosen_in, lowest_in}
 use Rattle.walk_core.specs.Fates.{SameButAttributes, table_after}
 use Rattle.walk_core.specs.Walks.{sum_below, sectors_for, entry_of, kernel_for, IsKernelOf, Walks}
@@ -60,7 +60,7 @@ keeps_looked n a b true settled none looks = record {
 }
 
 -- the same drive, after its table was read
-content_of : (d : Drive) (mid : DiskState) → IsTrue d.disk.medium.told → KeepsDisk d.disk.medium mid.medium → SameContent d mid d.hook
+content_of : (d : WalkQuestion) (mid : DiskState) → IsTrue d.disk.medium.told → KeepsDisk d.disk.medium mid.medium → SameContent d mid d.hook
 content_of d mid told keeps = record { bytes = keeps.bytes told; told = keeps.told; rows = refl; hook_told = refl }
 
 -- ---- the table that was found
@@ -143,7 +143,7 @@ changed_by true true a b to from = changed_true (bytes_eq a b) a b refl from
 
 -- ---- the walk as a function
 
-taken_is : (e : Drive) (entries : List ℕ) (handed_out : List ℕ) (o : Option Kernel) → IsTrue e.disk.medium.told → IfSome o (λ (kernel : Kernel). IsKernelOf e entries (kernel.partition - 1) kernel handed_out)
+taken_is : (e : WalkQuestion) (entries : List ℕ) (handed_out : List ℕ) (o : Option Kernel) → IsTrue e.disk.medium.told → IfSome o (λ (kernel : Kernel). IsKernelOf e entries (kernel.partition - 1) kernel handed_out)
     → o ≡ kernel_at e entries (entry_of o)
 taken_is e entries handed_out None told is = refl
 taken_is e entries handed_out (Some kernel) told is =
@@ -154,7 +154,7 @@ walked_of walked chosen lowest a b =
     ap (λ (x : Option Kernel). let w : Walked = record { chosen = x; lowest = walked.lowest } in w) a
     ∙ ap (λ (x : ℕ). let w : Walked = record { chosen = chosen; lowest = x } in w) b
 
-walked_is : (e : Drive) (room room' : RoomView) (disk' : DiskState) (hook' : HookState) (handed_out : List ℕ) (walked : Walked) → IsTrue e.disk.medium.told → IsTrue e.hook.told
+walked_is : (e : WalkQuestion) (room room' : RoomView) (disk' : DiskState) (hook' : HookState) (handed_out : List ℕ) (walked : Walked) → IsTrue e.disk.medium.told → IsTrue e.hook.told
     → Walks e room room' disk' hook' handed_out (Ok walked) → (entry_of walked.chosen ≡ chosen_in e room.table.entries) × (walked ≡ walked_in e room.table.entries)
 walked_is e room room' disk' hook' handed_out walked told told' walks =
     let entries = room.table.entries in
@@ -168,7 +168,7 @@ walked_is e room room' disk' hook' handed_out walked told told' walks =
 
 -- ---- each exit
 
-pub sees_none : (d : Drive) (mid : DiskState) (room : RoomView) (handed_out : List ℕ) → ReadsTable {E = Failed} d.disk mid room (Ok found.None) → Sees d room mid d.hook handed_out (Ok seen.NoTable)
+pub sees_none : (d : WalkQuestion) (mid : DiskState) (room : RoomView) (handed_out : List ℕ) → ReadsTable {E = Failed} d.disk mid room (Ok found.None) → Sees d room mid d.hook handed_out (Ok seen.NoTable)
 unfolding seen_in
 sees_none d mid room handed_out reads = record {
   counters = reads.counters;
@@ -185,11 +185,11 @@ sees_none d mid room handed_out reads = record {
 within : (old mid new walk : ℕ) → mid ≤ old + 66 → new ≤ mid + walk → new ≤ old + (66 + walk)
 within old mid new walk first second = omega (arith, first, second)
 
-abbrev sectors_by : Drive → Option PartitionTable → ℕ
+abbrev sectors_by : WalkQuestion → Option PartitionTable → ℕ
 sectors_by d None = 0
 sectors_by d (Some table) = sum_below 128 (sectors_for d table.entries)
 
-reads_both : (d : Drive) (what : Found) (mid disk' : DiskState) (hook' : HookState) (room room' : RoomView) (handed_out : List ℕ) (result : Result Walked Failure) → IsThere what
+reads_both : (d : WalkQuestion) (what : Found) (mid disk' : DiskState) (hook' : HookState) (room room' : RoomView) (handed_out : List ℕ) (result : Result Walked Failure) → IsThere what
     → ReadsTable {E = Failed} d.disk mid room (Ok what) → Walks (drive_now d mid d.hook) room room' disk' hook' handed_out result → IsTrue d.disk.medium.told → IsTrue d.hook.told
     → disk'.medium.sectors_read ≤ d.disk.medium.sectors_read + (66 + sectors_by d (table_on d.disk.medium))
 reads_both d what mid disk' hook' room room' handed_out result there reads walks told told' =
@@ -201,7 +201,7 @@ reads_both d what mid disk' hook' room room' handed_out result there reads walks
     subst (λ (o : Option PartitionTable). disk'.medium.sectors_read ≤ d.disk.medium.sectors_read + (66 + sectors_by d o)) (sym table)
     (within d.disk.medium.sectors_read mid.medium.sectors_read disk'.medium.sectors_read (sum_below 128 (sectors_for d room.table.entries)) (reads.no_more told) here)
 
-pub sees_failed : (d : Drive) (what : Found) (mid disk' : DiskState) (hook' : HookState) (room room' : RoomView) (handed_out : List ℕ) (failure : Failure) → IsThere what
+pub sees_failed : (d : WalkQuestion) (what : Found) (mid disk' : DiskState) (hook' : HookState) (room room' : RoomView) (handed_out : List ℕ) (failure : Failure) → IsThere what
     → ReadsTable {E = Failed} d.disk mid room (Ok what) → Walks (drive_now d mid d.hook) room room' disk' hook' handed_out (Err failure) → Sees d room' disk' hook' handed_out (Err failure)
 sees_failed d what mid disk' hook' room room' handed_out failure there reads walks = record {
   counters = observed_then _ _ _ _ reads.counters walks.looks.counters;
@@ -218,7 +218,7 @@ sees_failed d what mid disk' hook' room room' handed_out failure there reads wal
 -- ---- the walk came to its end
 
 -- the room after the walk over the table that was read
-room_after : (d : Drive) (what : Found) (mid disk' : DiskState) (hook' : HookState) (room room' : RoomView) (handed_out : List ℕ) (walked : Walked) → IsThere what
+room_after : (d : WalkQuestion) (what : Found) (mid disk' : DiskState) (hook' : HookState) (room room' : RoomView) (handed_out : List ℕ) (walked : Walked) → IsThere what
     → ReadsTable {E = Failed} d.disk mid room (Ok what) → Walks (drive_now d mid d.hook) room room' disk' hook' handed_out (Ok walked) → IsTrue d.disk.medium.told → IsTrue d.hook.told
     → room' ≡ record room { table = table_walked d room.table }
 room_after d what mid disk' hook' room room' handed_out walked there reads walks told told' =
@@ -233,7 +233,7 @@ abbrev entries_of : RoomView → List ℕ
 entries_of room = room.table.entries
 
 -- whether it is to be written
-changed_is : (d : Drive) (what : Found) (room room' : RoomView) (changed : Bool) → IsThere what → room ≡ found_room what d.disk.medium.sectors room.table
+changed_is : (d : WalkQuestion) (what : Found) (room room' : RoomView) (changed : Bool) → IsThere what → room ≡ found_room what d.disk.medium.sectors room.table
     → IsFoundOn what d.disk.medium.sectors d.disk.medium.bytes room.table → room' ≡ record room { table = table_walked d room.table }
     → (changed ≡ false) ↔ (IsTrue room'.agree × (room'.table ≡ room'.found)) → changed ≡ is_changed d room.table
 changed_is d what room room' changed there holds found after iff =
@@ -245,12 +245,12 @@ changed_is d what room room' changed there holds found after iff =
     (λ both. iff.1 (agree ∙ both.0, now ∙ ap (λ (es : List ℕ). let t : PartitionTable = record room.table { entries = es } in t) both.1 ∙ sym was))
     ∙ ap (λ (b : Bool). not (b && bytes_eq (table_walked d room.table).entries room.table.entries)) (sym (agrees_on what d.disk.medium room.table there found))
 
-kernel_same : (d : Drive) (entries : List ℕ) (mid : DiskState) (handed_out : List ℕ) (o : Option Kernel) → SameContent d mid d.hook
+kernel_same : (d : WalkQuestion) (entries : List ℕ) (mid : DiskState) (handed_out : List ℕ) (o : Option Kernel) → SameContent d mid d.hook
     → IfSome o (λ (kernel : Kernel). IsKernelOf (drive_now d mid d.hook) entries (kernel.partition - 1) kernel handed_out) → IfSome o (λ (kernel : Kernel). IsKernelOf d entries (kernel.partition - 1) kernel handed_out)
 kernel_same d entries mid handed_out None same is = tt
 kernel_same d entries mid handed_out (Some kernel) same is = kernel_of_same d entries (kernel.partition - 1) kernel handed_out mid d.hook same is
 
-kernel_seen : (d : Drive) (table : PartitionTable) (handed_out : List ℕ) (walked : Walked) (o : Option Kernel) (changed : Bool) → walked.chosen ≡ o → table_on d.disk.medium ≡ Some table
+kernel_seen : (d : WalkQuestion) (table : PartitionTable) (handed_out : List ℕ) (walked : Walked) (o : Option Kernel) (changed : Bool) → walked.chosen ≡ o → table_on d.disk.medium ≡ Some table
     → IfSome o (λ (kernel : Kernel). IsKernelOf d table.entries (kernel.partition - 1) kernel handed_out)
     → IfSome o (λ (kernel : Kernel). (t : PartitionTable) × (table_on d.disk.medium ≡ Some t) × IsKernelOf d t.entries (kernel.partition - 1) kernel handed_out)
 kernel_seen d table handed_out walked None changed is there taken = tt
@@ -272,7 +272,7 @@ still_ready mid disk' room room' can keeps kept =
           (subst (λ (bs : List ℕ). IsSource room.source mid.medium.sectors bs) (sym (keeps.bytes was)) (can.source was)));
     }
 
-pub sees_done : (d : Drive) (what : Found) (mid disk' : DiskState) (hook' : HookState) (room room' : RoomView) (handed_out : List ℕ) (walked : Walked) (changed : Bool) → IsThere what
+pub sees_done : (d : WalkQuestion) (what : Found) (mid disk' : DiskState) (hook' : HookState) (room room' : RoomView) (handed_out : List ℕ) (walked : Walked) (changed : Bool) → IsThere what
     → ReadsTable {E = Failed} d.disk mid room (Ok what) → Walks (drive_now d mid d.hook) room room' disk' hook' handed_out (Ok walked)
     → (changed ≡ false) ↔ (IsTrue room'.agree × (room'.table ≡ room'.found)) → Sees d room' disk' hook' handed_out (Ok (seen.Table walked changed))
 unfolding seen_in

@@ -13,7 +13,7 @@ use Rattle.kernel_core.specs.Heads.{HeadQuestion, head_ok, head_key, head_preamb
 use Rattle.kernel_core.specs.HeadChecks.{head_question}
 use Rattle.kernel_core.specs.KernelBodies.{partition_bytes, kernel_body}
 use Rattle.kernel_core.specs.declared.head_fault.HeadOk.{HeadOk}
-use Rattle.walk_core.specs.Kernels.{Drive, head_bytes, asked_of_head}
+use Rattle.walk_core.specs.Kernels.{WalkQuestion, head_bytes, asked_of_head}
 use Rattle.walk_core.specs.Examined.{FoundKernel}
 use Rattle.walk_core.specs.Chosen.{sectors_in}
 use Rattle.gpt_core.specs.Placing.{with_each}
@@ -55,7 +55,7 @@ last_stays attributes entries k below size = number_stays attributes entries k 4
 -- ---- the kernel in a partition
 
 -- a disk that holds the same in so many sectors from this one on, and a hook that tells the same
-pub record SamePartition (d : Drive) (disk' : DiskState) (hook' : HookState) (first sectors : ℕ) : Type 0 where
+pub record SamePartition (d : WalkQuestion) (disk' : DiskState) (hook' : HookState) (first sectors : ℕ) : Type 0 where
   pub bytes : partition_bytes first sectors disk'.medium ≡ partition_bytes first sectors d.disk.medium
   pub told : disk'.medium.told ≡ d.disk.medium.told
   pub rows : hook'.rows ≡ d.hook.rows
@@ -66,7 +66,7 @@ begins bytes first sectors long =
     let at : first * 512 ≡ first * 512 + 0 = omega arith in
     ap (λ (n : ℕ). range bytes n 65536) at ∙ sym (range-range bytes (first * 512) (sectors * 512) 0 65536 (omega (arith, long)))
 
-asked_stays : (d : Drive) (disk' : DiskState) (hook' : HookState) (first sectors : ℕ) → 128 ≤ sectors → SamePartition d disk' hook' first sectors
+asked_stays : (d : WalkQuestion) (disk' : DiskState) (hook' : HookState) (first sectors : ℕ) → 128 ≤ sectors → SamePartition d disk' hook' first sectors
     → asked_of_head d first ≡ asked_of_head (drive_now d disk' hook') first
 asked_stays d disk' hook' first sectors long same =
     let head : head_bytes d first ≡ head_bytes (drive_now d disk' hook') first =
@@ -74,7 +74,7 @@ asked_stays d disk' hook' first sectors long same =
     ap (λ (b : List ℕ). head_question b d.key d.rules d.hook) head
     ∙ ap (λ (r : List HookRow). head_question (head_bytes (drive_now d disk' hook') first) d.key d.rules (record d.hook { rows = r })) (sym same.rows)
 
-found_stays : (d : Drive) (disk' : DiskState) (hook' : HookState) (first sectors : ℕ) (body : List ℕ) (head : HeadOk)
+found_stays : (d : WalkQuestion) (disk' : DiskState) (hook' : HookState) (first sectors : ℕ) (body : List ℕ) (head : HeadOk)
     → SamePartition d disk' hook' first sectors → FoundKernel d first sectors body head → FoundKernel (drive_now d disk' hook') first sectors body head
 found_stays d disk' hook' first sectors body head same found =
     let asked : asked_of_head d first ≡ asked_of_head (drive_now d disk' hook') first = asked_stays d disk' hook' first sectors found.long same in
@@ -96,7 +96,7 @@ found_stays d disk' hook' first sectors body head same found =
 
 -- ---- the kernel of an entry
 
-pub kernel_stays : (d : Drive) (disk' : DiskState) (hook' : HookState) (entries entries' : List ℕ) (k : ℕ) (kernel : Kernel) (body : List ℕ)
+pub kernel_stays : (d : WalkQuestion) (disk' : DiskState) (hook' : HookState) (entries entries' : List ℕ) (k : ℕ) (kernel : Kernel) (body : List ℕ)
     → first_in entries' k ≡ first_in entries k → last_in entries' k ≡ last_in entries k
     → SamePartition d disk' hook' (first_in entries k) (sectors_in entries k) → IsKernelAt d entries k kernel body
     → IsKernelAt (drive_now d disk' hook') entries' k kernel body

@@ -7,7 +7,7 @@ use Rattle.gpt_core.specs.Entries.{attributes_in, first_in}
 use Rattle.walk_core.specs.Attributes.{tried, found_bad}
 use Rattle.gpt_core.specs.Attributes.{priority_of}
 use Rattle.walk_core.specs.Candidates.{is_candidate, rank_in}
-use Rattle.walk_core.specs.Kernels.{Drive, body_fault}
+use Rattle.walk_core.specs.Kernels.{WalkQuestion, body_fault}
 use Rattle.walk_core.specs.Chosen.{sectors_in, head_is_good, kernel_is_good, is_good_candidate, head_of, ComesBefore, comes_before, IsChosen, later_count_by, later_count, Counts, IsLeastVersion, IsLowestFor}
 use Rattle.walk_core.specs.Fates.{fate_by, has_bad_head, fate}
 use Rattle.walk_core.specs.Steps.{entry_at, entry_in_order, Knows, none_later, mark_of}
@@ -46,7 +46,7 @@ lower_earlier entries j k below below' less =
 
 -- ---- none is good
 
-pub none_chosen : (d : Drive) (entries ranks : List ℕ) → Ordered entries ranks → ((p : ℕ) → p < length ranks → kernel_is_good d entries (entry_in_order ranks p) ≡ false)
+pub none_chosen : (d : WalkQuestion) (entries ranks : List ℕ) → Ordered entries ranks → ((p : ℕ) → p < length ranks → kernel_is_good d entries (entry_in_order ranks p) ≡ false)
     → (j : ℕ) → j < 128 → (b : Bool) → is_candidate entries j ≡ b → is_good_candidate d entries j ≡ false
 none_chosen d entries ranks o bad j below false is = and_left (is_candidate entries j) (kernel_is_good d entries j) is
 none_chosen d entries ranks o bad j below true is =
@@ -55,7 +55,7 @@ none_chosen d entries ranks o bad j below true is =
 
 -- ---- the first good one
 
-pub is_chosen : (d : Drive) (entries ranks : List ℕ) (o : Ordered entries ranks) (place : ℕ) → place < length ranks
+pub is_chosen : (d : WalkQuestion) (entries ranks : List ℕ) (o : Ordered entries ranks) (place : ℕ) → place < length ranks
     → ((p : ℕ) → p < place → kernel_is_good d entries (entry_in_order ranks p) ≡ false) → kernel_is_good d entries (entry_in_order ranks place) ≡ true
     → IsChosen d entries (entry_in_order ranks place)
 is_chosen d entries ranks o place inside bad good =
@@ -110,7 +110,7 @@ not_before entries c k below below' le =
     ]
 
 -- each of those behind it counts where its head is good
-behind_counts : (d : Drive) (entries ranks : List ℕ) (o : Ordered entries ranks) (place q : ℕ) → place < length ranks → q < length (drop (place + 1) ranks)
+behind_counts : (d : WalkQuestion) (entries ranks : List ℕ) (o : Ordered entries ranks) (place q : ℕ) → place < length ranks → q < length (drop (place + 1) ranks)
     → head_is_good d entries (entry_in_order (drop (place + 1) ranks) q) ≡ true → Counts d entries (entry_in_order ranks place) (entry_in_order (drop (place + 1) ranks) q)
 behind_counts d entries ranks o place q inside within good =
     let long = length-drop (place + 1) ranks in
@@ -130,11 +130,11 @@ behind_counts d entries ranks o place q inside within good =
 
 -- ---- the least version
 
-good_head : (d : Drive) (entries : List ℕ) (k : ℕ) → kernel_is_good d entries k ≡ true → head_is_good d entries k ≡ true
+good_head : (d : WalkQuestion) (entries : List ℕ) (k : ℕ) → kernel_is_good d entries k ≡ true → head_is_good d entries k ≡ true
 good_head d entries k good =
     (and_parts (head_is_good d entries k) (not (is_some (body_fault d (first_in entries k) (sectors_in entries k)))) good).0
 
-least_version : (d : Drive) (entries ranks : List ℕ) (o : Ordered entries ranks) (place : ℕ) (later : Later) → place < length ranks
+least_version : (d : WalkQuestion) (entries ranks : List ℕ) (o : Ordered entries ranks) (place : ℕ) (later : Later) → place < length ranks
     → kernel_is_good d entries (entry_in_order ranks place) ≡ true → (version : ℕ) → version ≡ (head_of d entries (entry_in_order ranks place)).version
     → Knows d entries (drop (place + 1) ranks) version (length (drop (place + 1) ranks)) later → IsLeastVersion d entries (entry_in_order ranks place) later.lowest
 least_version d entries ranks o place later inside good version is knows =
@@ -155,7 +155,7 @@ least_version d entries ranks o place later inside good version is knows =
       | inr has ↦ record { at = entry_in_order ranks' has.place; counts = behind_counts d entries ranks o place has.place inside has.inside has.good; version = has.same; least = below_all }
     ]
 
-pub is_lowest : (d : Drive) (entries ranks : List ℕ) (o : Ordered entries ranks) (place : ℕ) (later : Later) → place < length ranks
+pub is_lowest : (d : WalkQuestion) (entries ranks : List ℕ) (o : Ordered entries ranks) (place : ℕ) (later : Later) → place < length ranks
     → kernel_is_good d entries (entry_in_order ranks place) ≡ true → (version : ℕ) → version ≡ (head_of d entries (entry_in_order ranks place)).version
     → (later_count_by d.rules version ≡ true → Knows d entries (drop (place + 1) ranks) version (length (drop (place + 1) ranks)) later)
     → (later_count_by d.rules version ≡ false → later ≡ none_later d.rules.stored)
@@ -170,7 +170,7 @@ is_lowest d entries ranks o place later inside good version is counted stored =
 -- ---- the fates
 
 -- a later candidate is marked exactly where its head is bad
-marked_alike : (d : Drive) (entries ranks : List ℕ) (o : Ordered entries ranks) (place : ℕ) (later : Later) → place < length ranks → (version : ℕ)
+marked_alike : (d : WalkQuestion) (entries ranks : List ℕ) (o : Ordered entries ranks) (place : ℕ) (later : Later) → place < length ranks → (version : ℕ)
     → Knows d entries (drop (place + 1) ranks) version (length (drop (place + 1) ranks)) later
     → (k : ℕ) → k < 128 → is_candidate entries k ≡ true → rank_in entries (entry_in_order ranks place) < rank_in entries k
     → (good : Bool) → head_is_good d entries k ≡ good → (marked : Bool) → mark_of later.bad k ≡ marked → marked ≡ not good
@@ -182,7 +182,7 @@ marked_alike d entries ranks o place later inside version knows k below is after
     absurd (true≢false (sym (knows.complete has.place' has.inside (ap (head_is_good d entries) has.is ∙ good)) ∙ ap (λ (j : ℕ). get_or later.bad j false) has.is ∙ marked))
 
 -- what is noted of a later candidate
-noted_of : (d : Drive) (entries ranks : List ℕ) (o : Ordered entries ranks) (place : ℕ) (later : Later) → place < length ranks → (version : ℕ) → version ≡ (head_of d entries (entry_in_order ranks place)).version
+noted_of : (d : WalkQuestion) (entries ranks : List ℕ) (o : Ordered entries ranks) (place : ℕ) (later : Later) → place < length ranks → (version : ℕ) → version ≡ (head_of d entries (entry_in_order ranks place)).version
     → (later_count_by d.rules version ≡ true → Knows d entries (drop (place + 1) ranks) version (length (drop (place + 1) ranks)) later)
     → (later_count_by d.rules version ≡ false → later ≡ none_later d.rules.stored)
     → (k : ℕ) → k < 128 → is_candidate entries k ≡ true → rank_in entries (entry_in_order ranks place) < rank_in entries k
@@ -200,7 +200,7 @@ alike true true after one two same = refl
 alike true false false one two same = refl
 alike true false true one two same = same refl refl
 
-pub fates_are : (d : Drive) (entries ranks : List ℕ) (o : Ordered entries ranks) (place : ℕ) (later : Later) → place < length ranks → (version : ℕ) → version ≡ (head_of d entries (entry_in_order ranks place)).version
+pub fates_are : (d : WalkQuestion) (entries ranks : List ℕ) (o : Ordered entries ranks) (place : ℕ) (later : Later) → place < length ranks → (version : ℕ) → version ≡ (head_of d entries (entry_in_order ranks place)).version
     → (later_count_by d.rules version ≡ true → Knows d entries (drop (place + 1) ranks) version (length (drop (place + 1) ranks)) later)
     → (later_count_by d.rules version ≡ false → later ≡ none_later d.rules.stored)
     → (k : ℕ) → k < 128 → fate_by (mark_of later.bad) entries (Some (entry_in_order ranks place)) k ≡ fate d entries (Some (entry_in_order ranks place)) k

@@ -14,7 +14,7 @@ use Rattle.kernel_core.specs.KernelBodies.{LooksAtDisk}
 use Rattle.kernel_core.specs.declared.head_fault.HeadOk.{HeadOk}
 use Rattle.kernel_core.proofs.DiskLooks.{looks_then, looks_more}
 use Rattle.walk_core.specs.Candidates.{is_candidate, AreInOrder}
-use Rattle.walk_core.specs.Kernels.{Drive}
+use Rattle.walk_core.specs.Kernels.{WalkQuestion}
 use Rattle.walk_core.specs.Examined.{FoundKernel}
 use Rattle.walk_core.specs.Chosen.{sectors_in, head_is_good, head_of, Chosen, IsLowest, later_count_by}
 use Rattle.walk_core.specs.Fates.{fate_by, fate, room_having, HasFates, SameButAttributes}
@@ -31,7 +31,7 @@ use Rattle.walk_core.proofs.WalkChosen.{none_chosen, is_chosen, is_lowest, fates
 
 -- ---- what is known of the later ones, by what the drive told before
 
-knows_same : (d : Drive) (entries ranks : List ℕ) (version count : ℕ) (later : Later) (disk' : DiskState) (hook' : HookState) → SameContent d disk' hook'
+knows_same : (d : WalkQuestion) (entries ranks : List ℕ) (version count : ℕ) (later : Later) (disk' : DiskState) (hook' : HookState) → SameContent d disk' hook'
     → Knows (drive_now d disk' hook') entries ranks version count later → Knows d entries ranks version count later
 knows_same d entries ranks version count later disk' hook' same knows =
     let good : (k : ℕ) → head_is_good (drive_now d disk' hook') entries k ≡ head_is_good d entries k =
@@ -69,7 +69,7 @@ behind_candidates entries ranks n are place within =
 
 -- ---- none is good
 
-pub none_walked : (d : Drive) (old new : RoomView) (ranks : List ℕ) (disk' : DiskState) (hook' : HookState) (body : List ℕ) (marks : List Bool) → AreInOrder old.table.entries ranks
+pub none_walked : (d : WalkQuestion) (old new : RoomView) (ranks : List ℕ) (disk' : DiskState) (hook' : HookState) (body : List ℕ) (marks : List Bool) → AreInOrder old.table.entries ranks
     → FindsFirst d old.table.entries ranks disk' hook' body (Ok None)
     → new ≡ room_having old (with_each 128 (fate_by (mark_of marks) old.table.entries None) old.table.entries)
     → HasFates new.table.entries (fate_by (mark_of marks) old.table.entries None) → SameButAttributes old new
@@ -91,7 +91,7 @@ none_walked d old new ranks disk' hook' body marks are finds is each kept =
 
 -- ---- failures
 
-pub first_walk_failed : (d : Drive) (old : RoomView) (ranks : List ℕ) (disk' : DiskState) (hook' : HookState) (body : List ℕ) (failure : Failure) → AreInOrder old.table.entries ranks
+pub first_walk_failed : (d : WalkQuestion) (old : RoomView) (ranks : List ℕ) (disk' : DiskState) (hook' : HookState) (body : List ℕ) (failure : Failure) → AreInOrder old.table.entries ranks
     → FindsFirst d old.table.entries ranks disk' hook' body (Err failure) → Walks d old old disk' hook' body (Err failure)
 first_walk_failed d old ranks disk' hook' body failure are finds =
     let entries = old.table.entries in
@@ -109,7 +109,7 @@ first_walk_failed d old ranks disk' hook' body failure are finds =
     }
 
 -- what both steps read
-pub record BothLook (d : Drive) (entries : List ℕ) (disk'' : DiskState) (hook'' : HookState) (result : Result Later Failure) : Type 0 where
+pub record BothLook (d : WalkQuestion) (entries : List ℕ) (disk'' : DiskState) (hook'' : HookState) (result : Result Later Failure) : Type 0 where
   pub looks : LooksAtDisk (sum_below 128 (most_sectors_for d entries)) d.disk disk'' (store_failed result)
   pub asked : Asked d.hook hook'' (hook_failed result)
   pub reads : IsTrue d.disk.medium.told → IsTrue d.hook.told → disk''.medium.sectors_read ≤ d.disk.medium.sectors_read + sum_below 128 (sectors_for d entries)
@@ -117,7 +117,7 @@ pub record BothLook (d : Drive) (entries : List ℕ) (disk'' : DiskState) (hook'
 sums : (a b c m n s : ℕ) → b ≤ a + m → c ≤ b + n → m + n ≤ s → c ≤ a + s
 sums a b c m n s one two e = omega (arith, one, two, e)
 
-both_look : (d : Drive) (entries ranks : List ℕ) (disk' disk'' : DiskState) (hook' hook'' : HookState) (body : List ℕ) (taken : Taken) (version : ℕ) (result : Result Later Failure) → AreInOrder entries ranks
+both_look : (d : WalkQuestion) (entries ranks : List ℕ) (disk' disk'' : DiskState) (hook' hook'' : HookState) (body : List ℕ) (taken : Taken) (version : ℕ) (result : Result Later Failure) → AreInOrder entries ranks
     → FindsFirst d entries ranks disk' hook' body (Ok (Some taken))
     → LooksLater (drive_now d disk' hook') entries (drop (taken.place + 1) ranks) version disk'' hook'' result
     → BothLook d entries disk'' hook'' result
@@ -137,7 +137,7 @@ both_look d entries ranks disk' disk'' hook' hook'' body taken version result ar
           (finds.reads told told') (later.looks.no_more (same.told ∙ told)) (then_heads (sectors_of_rank d entries) ranks (taken.place + 1) (exact_least d entries)));
     }
 
-pub later_walk_failed : (d : Drive) (old : RoomView) (ranks : List ℕ) (disk' disk'' : DiskState) (hook' hook'' : HookState) (body : List ℕ) (taken : Taken) (version : ℕ) (failure : Failure) → AreInOrder old.table.entries ranks
+pub later_walk_failed : (d : WalkQuestion) (old : RoomView) (ranks : List ℕ) (disk' disk'' : DiskState) (hook' hook'' : HookState) (body : List ℕ) (taken : Taken) (version : ℕ) (failure : Failure) → AreInOrder old.table.entries ranks
     → FindsFirst d old.table.entries ranks disk' hook' body (Ok (Some taken))
     → LooksLater (drive_now d disk' hook') old.table.entries (drop (taken.place + 1) ranks) version disk'' hook'' (Err failure)
     → Walks d old old disk'' hook'' body (Err failure)
@@ -161,12 +161,12 @@ later_walk_failed d old ranks disk' disk'' hook' hook'' body taken version failu
 back : (k : ℕ) → k + 1 - 1 ≡ k
 back k = omega arith
 
-kernel_found : (d : Drive) (entries : List ℕ) (k : ℕ) (body : List ℕ) (head : HeadOk) → k < 128 → is_candidate entries k ≡ true
+kernel_found : (d : WalkQuestion) (entries : List ℕ) (k : ℕ) (body : List ℕ) (head : HeadOk) → k < 128 → is_candidate entries k ≡ true
     → FoundKernel d (first_in entries k) (sectors_in entries k) body head → IsKernelOf d entries k (kernel_for k head) body
 kernel_found d entries k body head below candidate found =
     record { at = record { inside = below; head = head; is = refl; found = found }; candidate = candidate }
 
-pub one_walked : (d : Drive) (old new : RoomView) (ranks : List ℕ) (disk' disk'' : DiskState) (hook' hook'' : HookState) (body : List ℕ) (taken : Taken) (later : Later) → AreInOrder old.table.entries ranks
+pub one_walked : (d : WalkQuestion) (old new : RoomView) (ranks : List ℕ) (disk' disk'' : DiskState) (hook' hook'' : HookState) (body : List ℕ) (taken : Taken) (later : Later) → AreInOrder old.table.entries ranks
     → FindsFirst d old.table.entries ranks disk' hook' body (Ok (Some taken))
     → LooksLater (drive_now d disk' hook') old.table.entries (drop (taken.place + 1) ranks) taken.head.version disk'' hook'' (Ok later)
     → new ≡ room_having old (with_each 128 (fate_by (mark_of later.bad) old.table.entries (Some (entry_in_order ranks taken.place))) old.table.entries)

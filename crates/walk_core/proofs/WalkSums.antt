@@ -4,7 +4,7 @@ use Rattle.std.specs.Prelude.{if◌then◌else◌}
 use Rattle.std.proofs.lemmas.List.Sums.{sum_by-cons, sum_by_push, sum_by-take-drop}
 use Rattle.std.proofs.lemmas.List.Sorted.{sum_by-IsPermutation}
 use Rattle.walk_core.specs.Candidates.{is_candidate, rank_in, ranks_among, AreInOrder}
-use Rattle.walk_core.specs.Kernels.{Drive}
+use Rattle.walk_core.specs.Kernels.{WalkQuestion}
 use Rattle.walk_core.specs.Chosen.{head_is_good}
 use Rattle.walk_core.specs.Walks.{sum_below, is_reached, body_sectors_in, sectors_for, most_sectors_for}
 use Rattle.walk_core.specs.Steps.{sectors_of_rank, most_sectors_of_rank}
@@ -29,12 +29,12 @@ sum_in_order : (f g : ℕ → ℕ) (entries ranks : List ℕ) → AreInOrder ent
     → sum_by f ranks ≡ sum_below 128 (λ k. if is_candidate entries k then g k else 0)
 sum_in_order f g entries ranks are same = sum_by-IsPermutation f (ranks_among 128 entries) ranks are.all ∙ sum_among f g entries 128 (omega arith) same
 
-pub sum_most : (d : Drive) (entries ranks : List ℕ) → AreInOrder entries ranks → sum_by (most_sectors_of_rank d entries) ranks ≡ sum_below 128 (most_sectors_for d entries)
+pub sum_most : (d : WalkQuestion) (entries ranks : List ℕ) → AreInOrder entries ranks → sum_by (most_sectors_of_rank d entries) ranks ≡ sum_below 128 (most_sectors_for d entries)
 sum_most d entries ranks are =
     sum_in_order (most_sectors_of_rank d entries) (λ k. 128 + body_sectors_in d entries k) entries ranks are
     (λ k below. ap (λ (j : ℕ). 128 + body_sectors_in d entries j) (rank_rest entries k below))
 
-pub sum_exact : (d : Drive) (entries ranks : List ℕ) → AreInOrder entries ranks → sum_by (sectors_of_rank d entries) ranks ≡ sum_below 128 (sectors_for d entries)
+pub sum_exact : (d : WalkQuestion) (entries ranks : List ℕ) → AreInOrder entries ranks → sum_by (sectors_of_rank d entries) ranks ≡ sum_below 128 (sectors_for d entries)
 sum_exact d entries ranks are =
     sum_in_order (sectors_of_rank d entries) (λ k. 128 + (if is_reached d entries k && head_is_good d entries k then body_sectors_in d entries k else 0)) entries ranks are
     (λ k below. ap (λ (j : ℕ). 128 + (if is_reached d entries j && head_is_good d entries j then body_sectors_in d entries j else 0)) (rank_rest entries k below))
@@ -54,8 +54,8 @@ then_heads f ranks place least =
     let all = sum_by-take-drop f ranks place in
     omega (arith, rest, all)
 
-pub most_least : (d : Drive) (entries : List ℕ) (rank : ℕ) → 128 ≤ most_sectors_of_rank d entries rank
+pub most_least : (d : WalkQuestion) (entries : List ℕ) (rank : ℕ) → 128 ≤ most_sectors_of_rank d entries rank
 most_least d entries rank = omega arith
 
-pub exact_least : (d : Drive) (entries : List ℕ) (rank : ℕ) → 128 ≤ sectors_of_rank d entries rank
+pub exact_least : (d : WalkQuestion) (entries : List ℕ) (rank : ℕ) → 128 ≤ sectors_of_rank d entries rank
 exact_least d entries rank = omega arith

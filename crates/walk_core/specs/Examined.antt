@@ -8,10 +8,10 @@ use Rattle.chain_core.specs.declared.fault.Failure.{Failure}
 use Rattle.kernel_core.specs.Heads.{head_key, head_preamble, head_ok, IsHeadOf, HeadChain}
 use Rattle.kernel_core.specs.KernelBodies.{LooksAtDisk, read_sectors, kernel_body}
 use Rattle.kernel_core.specs.declared.head_fault.HeadOk.{HeadOk}
-use Rattle.walk_core.specs.Kernels.{Drive, head_bytes, asked_of_head, has_good_head, head_in, kernel_in}
+use Rattle.walk_core.specs.Kernels.{WalkQuestion, head_bytes, asked_of_head, has_good_head, head_in, good_kernel_in}
 
 -- A head that was found good.
-pub record FoundHead (d : Drive) (first sectors : ℕ) (vblock : List ℕ) (head : HeadOk) : Type 0 where
+pub record FoundHead (d : WalkQuestion) (first sectors : ℕ) (vblock : List ℕ) (head : HeadOk) : Type 0 where
   -- the partition is long enough for one
   pub long : 128 ≤ sectors
   -- it is the one in the bytes
@@ -25,7 +25,7 @@ pub record FoundHead (d : Drive) (first sectors : ℕ) (vblock : List ℕ) (head
   pub chain : IsTrue d.disk.medium.told → IsTrue d.hook.told → HeadChain (asked_of_head d first)
 
 -- The call to examine the head in a partition.
-pub record ExaminesHead (d : Drive) (first sectors : ℕ) (disk' : DiskState) (hook' : HookState) (vblock : List ℕ)
+pub record ExaminesHead (d : WalkQuestion) (first sectors : ℕ) (disk' : DiskState) (hook' : HookState) (vblock : List ℕ)
     (result : Result (Option HeadOk) Failure) : Type 0 where
   -- a disk or a hook that failed counted it once, and they hold what they held; at most 128 sectors were read
   pub looks : LooksAtDisk 128 d.disk disk' (store_failed result)
@@ -36,11 +36,11 @@ pub record ExaminesHead (d : Drive) (first sectors : ℕ) (disk' : DiskState) (h
   pub found : IfOk result (λ head. IfSome head (FoundHead d first sectors vblock))
 
 -- how many sectors past the first 128 are read for the body of a head
-abbrev pub body_sectors : Drive → (first sectors : ℕ) → ℕ
+abbrev pub body_sectors : WalkQuestion → (first sectors : ℕ) → ℕ
 body_sectors d first sectors = read_sectors sectors (head_ok (asked_of_head d first)).body_at (head_ok (asked_of_head d first)).body_len
 
 -- A kernel that was found good.
-pub record FoundKernel (d : Drive) (first sectors : ℕ) (handed_out : List ℕ) (head : HeadOk) : Type 0 where
+pub record FoundKernel (d : WalkQuestion) (first sectors : ℕ) (handed_out : List ℕ) (head : HeadOk) : Type 0 where
   -- the partition is long enough for a head
   pub long : 128 ≤ sectors
   -- version, load address, place and length of the body are those that the disk tells
@@ -55,7 +55,7 @@ pub record FoundKernel (d : Drive) (first sectors : ℕ) (handed_out : List ℕ)
       (head_preamble (head_bytes d first)).common.body_signature (kernel_body head first sectors d.disk.medium)
 
 -- The call to examine the kernel in a partition.
-pub record ExaminesKernel (d : Drive) (first sectors : ℕ) (disk' : DiskState) (hook' : HookState) (handed_out : List ℕ)
+pub record ExaminesKernel (d : WalkQuestion) (first sectors : ℕ) (disk' : DiskState) (hook' : HookState) (handed_out : List ℕ)
     (result : Result (Option HeadOk) Failure) : Type 0 where
   -- a disk or a hook that failed counted it once, and they hold what they held; at most the 128 sectors of the head and
   -- those that the body touches past them were read
@@ -65,6 +65,6 @@ pub record ExaminesKernel (d : Drive) (first sectors : ℕ) (disk' : DiskState) 
       → disk'.medium.sectors_read ≤ d.disk.medium.sectors_read + 128
   pub asked : Asked d.hook hook' (hook_failed result)
   -- the answer is the head where the kernel is good
-  pub kernel : IsTrue d.disk.medium.told → IsTrue d.hook.told → IfOk result (λ head. head ≡ kernel_in d first sectors)
+  pub kernel : IsTrue d.disk.medium.told → IsTrue d.hook.told → IfOk result (λ head. head ≡ good_kernel_in d first sectors)
   -- of which the body is handed out, and the signatures are accepted
   pub found : IfOk result (λ head. IfSome head (FoundKernel d first sectors handed_out))

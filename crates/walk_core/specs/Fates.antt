@@ -10,7 +10,7 @@ use Rattle.gpt_core.specs.Placing.{with_each}
 use Rattle.gpt_core.specs.Room.{RoomView}
 use Rattle.walk_core.specs.Attributes.{tried, found_bad}
 use Rattle.walk_core.specs.Candidates.{is_candidate}
-use Rattle.walk_core.specs.Kernels.{Drive}
+use Rattle.walk_core.specs.Kernels.{WalkQuestion}
 use Rattle.walk_core.specs.Chosen.{head_is_good, comes_before, later_count}
 
 -- ---- the fate of one entry
@@ -34,11 +34,11 @@ fate_by later_is_bad entries chosen k =
     else (if is_bad later_is_bad entries chosen k then found_bad (attributes_in entries k) else attributes_in entries k)
 
 -- A later one is bad where later ones count, and its head is not good.
-abbrev pub has_bad_head : Drive → List ℕ → (chosen : Option ℕ) → ℕ → Bool
+abbrev pub has_bad_head : WalkQuestion → List ℕ → (chosen : Option ℕ) → ℕ → Bool
 has_bad_head d entries None k = false
 has_bad_head d entries (Some chosen) k = later_count d entries chosen && not (head_is_good d entries k)
 
-abbrev pub fate : Drive → List ℕ → (chosen : Option ℕ) → ℕ → ℕ
+abbrev pub fate : WalkQuestion → List ℕ → (chosen : Option ℕ) → ℕ → ℕ
 fate d entries chosen k = fate_by (has_bad_head d entries chosen) entries chosen k
 
 -- ---- the table after all of them
@@ -65,5 +65,5 @@ pub record SameButAttributes (old new : RoomView) : Type 0 where
   pub name : (k : ℕ) → k < 128 → range new.table.entries (128 * k + 56) 72 ≡ range old.table.entries (128 * k + 56) 72
 
 -- the table in which each entry has met its fate
-abbrev pub table_after : Drive → (chosen : Option ℕ) → PartitionTable → PartitionTable
+abbrev pub table_after : WalkQuestion → (chosen : Option ℕ) → PartitionTable → PartitionTable
 table_after d chosen table = record table { entries = with_each 128 (fate d table.entries chosen) table.entries }

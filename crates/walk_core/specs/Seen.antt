@@ -14,7 +14,7 @@ use Rattle.gpt_core.specs.Tables.{copy_table, table_on}
 use Rattle.chain_core.specs.Accepted.{Asked}
 use Rattle.chain_core.specs.Bodies.{store_failed, hook_failed}
 use Rattle.chain_core.specs.declared.fault.Failure.{Failure}
-use Rattle.walk_core.specs.Kernels.{Drive}
+use Rattle.walk_core.specs.Kernels.{WalkQuestion}
 use Rattle.walk_core.specs.Chosen.{head_of}
 use Rattle.walk_core.specs.Choice.{chosen_in, lowest_in}
 use Rattle.walk_core.specs.Fates.{table_after}
@@ -27,15 +27,15 @@ use Rattle.walk_core.specs.declared.drive.Seen.TheVariants as seen
 -- ---- the walk as a function
 
 -- what is read of the chosen entry
-abbrev pub kernel_at : Drive → List ℕ → (chosen : Option ℕ) → Option Kernel
+abbrev pub kernel_at : WalkQuestion → List ℕ → (chosen : Option ℕ) → Option Kernel
 kernel_at d entries None = None
 kernel_at d entries (Some k) = Some (kernel_for k (head_of d entries k))
 
-abbrev pub walked_in : Drive → List ℕ → Walked
+abbrev pub walked_in : WalkQuestion → List ℕ → Walked
 walked_in d entries = record { chosen = kernel_at d entries (chosen_in d entries); lowest = lowest_in d entries (chosen_in d entries) }
 
 -- the table in which each entry has met its fate
-abbrev pub table_walked : Drive → PartitionTable → PartitionTable
+abbrev pub table_walked : WalkQuestion → PartitionTable → PartitionTable
 table_walked d table = table_after d (chosen_in d table.entries) table
 
 -- ---- whether it is to be written
@@ -54,16 +54,16 @@ abbrev pub copies_agree : DiskMedium → Bool
 copies_agree medium = both_say (copy_table Primary medium.sectors medium.bytes) (copy_table Backup medium.sectors medium.bytes)
 
 -- the copies do not agree, or an entry is another one after the walk
-abbrev pub is_changed : Drive → PartitionTable → Bool
+abbrev pub is_changed : WalkQuestion → PartitionTable → Bool
 is_changed d table = not (copies_agree d.disk.medium && bytes_eq (table_walked d table).entries table.entries)
 
 -- ---- what is seen
 
-abbrev pub seen_by : Drive → Option PartitionTable → Seen
+abbrev pub seen_by : WalkQuestion → Option PartitionTable → Seen
 seen_by d None = seen.NoTable
 seen_by d (Some table) = seen.Table (walked_in d table.entries) (is_changed d table)
 
-unfoldable pub seen_in : Drive → Seen
+unfoldable pub seen_in : WalkQuestion → Seen
 seen_in d = seen_by d (table_on d.disk.medium)
 
 -- the kernel that is seen: the chosen one, or none
@@ -72,7 +72,7 @@ kernel_of seen.NoTable = None
 kernel_of (seen.Table walked changed) = walked.chosen
 
 -- how many sectors the walk over a table reads at most
-abbrev pub sectors_of_walk : Drive → Option PartitionTable → ℕ
+abbrev pub sectors_of_walk : WalkQuestion → Option PartitionTable → ℕ
 sectors_of_walk d None = 0
 sectors_of_walk d (Some table) = sum_below 128 (sectors_for d table.entries)
 
@@ -84,17 +84,17 @@ HasTable seen.NoTable = ⊥
 HasTable (seen.Table walked changed) = Unit {0}
 
 -- the kernel that was taken is that of an entry of the drive's table
-abbrev pub IsSeen : Drive → (handed_out : List ℕ) → Seen → Type 0
+abbrev pub IsSeen : WalkQuestion → (handed_out : List ℕ) → Seen → Type 0
 IsSeen d handed_out seen.NoTable = Unit {0}
 IsSeen d handed_out (seen.Table walked changed) = IfSome walked.chosen (λ kernel.
     (table : PartitionTable) × (table_on d.disk.medium ≡ Some table) × IsKernelOf d table.entries (kernel.partition - 1) kernel handed_out)
 
 -- the room holds the drive's table after the walk
-abbrev pub HoldsWalked : Drive → RoomView → Type 0
+abbrev pub HoldsWalked : WalkQuestion → RoomView → Type 0
 HoldsWalked d room = (table : PartitionTable) × (table_on d.disk.medium ≡ Some table) × (room.table ≡ table_walked d table)
 
 -- A drive is looked at, on which nothing is pending.
-pub record Sees (d : Drive) (room : RoomView) (disk' : DiskState) (hook' : HookState) (handed_out : List ℕ)
+pub record Sees (d : WalkQuestion) (room : RoomView) (disk' : DiskState) (hook' : HookState) (handed_out : List ℕ)
     (result : Result Seen Failure) : Type 0 where
   -- a disk or a hook that failed counted it once, and they hold what they held
   pub counters : Observed d.disk.counters disk'.counters (store_failed result)

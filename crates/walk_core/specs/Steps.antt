@@ -14,7 +14,7 @@ use Rattle.kernel_core.specs.KernelBodies.{LooksAtDisk}
 use Rattle.kernel_core.specs.declared.head_fault.HeadOk.{HeadOk}
 use Rattle.walk_core.specs.Attributes.{tried, found_bad}
 use Rattle.walk_core.specs.Candidates.{is_kernel_candidate, is_candidate, rank}
-use Rattle.walk_core.specs.Kernels.{Drive}
+use Rattle.walk_core.specs.Kernels.{WalkQuestion}
 use Rattle.walk_core.specs.Examined.{FoundKernel}
 use Rattle.walk_core.specs.Chosen.{sectors_in, head_is_good, kernel_is_good, head_of, later_count_by}
 use Rattle.walk_core.specs.Fates.{fate_by, marked_entries, room_having, HasFates, SameButAttributes}
@@ -37,11 +37,11 @@ AreCandidates entries ranks = (place : ℕ) → place < length ranks → is_cand
 -- ---- the sectors of the candidate of a rank
 
 -- its head's, and those of its body that are read
-abbrev pub sectors_of_rank : Drive → List ℕ → ℕ → ℕ
+abbrev pub sectors_of_rank : WalkQuestion → List ℕ → ℕ → ℕ
 sectors_of_rank d entries rank = 128 + body_sectors_read d entries (entry_at rank)
 
 -- its head's and its body's
-abbrev pub most_sectors_of_rank : Drive → List ℕ → ℕ → ℕ
+abbrev pub most_sectors_of_rank : WalkQuestion → List ℕ → ℕ → ℕ
 most_sectors_of_rank d entries rank = 128 + body_sectors_in d entries (entry_at rank)
 
 -- ---- up to the first good one
@@ -58,13 +58,13 @@ bad_before ranks (Some taken) = taken.place
 bad_before ranks None = length ranks
 
 -- The first good one was taken.
-pub record TakesKernel (d : Drive) (entries ranks : List ℕ) (handed_out : List ℕ) (taken : Taken) : Type 0 where
+pub record TakesKernel (d : WalkQuestion) (entries ranks : List ℕ) (handed_out : List ℕ) (taken : Taken) : Type 0 where
   pub inside : taken.place < length ranks
   pub found : FoundKernel d (first_in entries (entry_in_order ranks taken.place)) (sectors_in entries (entry_in_order ranks taken.place))
       handed_out taken.head
   pub good : IsTrue d.disk.medium.told → IsTrue d.hook.told → kernel_is_good d entries (entry_in_order ranks taken.place) ≡ true
 
-pub record FindsFirst (d : Drive) (entries ranks : List ℕ) (disk' : DiskState) (hook' : HookState) (handed_out : List ℕ)
+pub record FindsFirst (d : WalkQuestion) (entries ranks : List ℕ) (disk' : DiskState) (hook' : HookState) (handed_out : List ℕ)
     (result : Result (Option Taken) Failure) : Type 0 where
   pub looks : LooksAtDisk (sum_by (most_sectors_of_rank d entries) (gone_through ranks result)) d.disk disk' (store_failed result)
   pub asked : Asked d.hook hook' (hook_failed result)
@@ -83,14 +83,14 @@ noted later rank (Some head) = record later { lowest = min later.lowest head.ver
 noted later rank None = record later { bad = set later.bad (entry_at rank) true }
 
 -- A good head among those of the first so many of these ranks has this version.
-pub record HasVersion (d : Drive) (entries ranks : List ℕ) (count version : ℕ) : Type 0 where
+pub record HasVersion (d : WalkQuestion) (entries ranks : List ℕ) (count version : ℕ) : Type 0 where
   pub place : ℕ
   pub inside : place < count
   pub good : head_is_good d entries (entry_in_order ranks place) ≡ true
   pub same : version ≡ (head_of d entries (entry_in_order ranks place)).version
 
 -- What is known of the candidates of the first so many of these ranks, which are behind the chosen one of this version.
-pub record Knows (d : Drive) (entries ranks : List ℕ) (version count : ℕ) (later : Later) : Type 0 where
+pub record Knows (d : WalkQuestion) (entries ranks : List ℕ) (version count : ℕ) (later : Later) : Type 0 where
   -- those that are marked have a bad head, and those that have one are marked
   pub sound : (k : ℕ) → get_or later.bad k false ≡ true → head_is_good d entries k ≡ false
   pub complete : (place : ℕ) → place < count → head_is_good d entries (entry_in_order ranks place) ≡ false
@@ -106,7 +106,7 @@ abbrev pub none_later : (lowest : ℕ) → Later
 none_later lowest = record { lowest = lowest; bad = replicate 128 false }
 
 -- The heads of the candidates of these ranks, which are behind one with this version, are examined where they count.
-pub record LooksLater (d : Drive) (entries ranks : List ℕ) (version : ℕ) (disk' : DiskState) (hook' : HookState)
+pub record LooksLater (d : WalkQuestion) (entries ranks : List ℕ) (version : ℕ) (disk' : DiskState) (hook' : HookState)
     (result : Result Later Failure) : Type 0 where
   pub looks : LooksAtDisk (128 * length ranks) d.disk disk' (store_failed result)
   pub asked : Asked d.hook hook' (hook_failed result)
@@ -115,7 +115,7 @@ pub record LooksLater (d : Drive) (entries ranks : List ℕ) (version : ℕ) (di
   pub stored : later_count_by d.rules version ≡ false → IfOk result (λ later. later ≡ none_later d.rules.stored)
 
 -- The same where they count.
-pub record CountsLater (d : Drive) (entries ranks : List ℕ) (version : ℕ) (disk' : DiskState) (hook' : HookState)
+pub record CountsLater (d : WalkQuestion) (entries ranks : List ℕ) (version : ℕ) (disk' : DiskState) (hook' : HookState)
     (result : Result Later Failure) : Type 0 where
   pub looks : LooksAtDisk (128 * length ranks) d.disk disk' (store_failed result)
   pub asked : Asked d.hook hook' (hook_failed result)

@@ -20,13 +20,17 @@ pub digest_512 : (algorithm : ℕ) (message : List ℕ) → has_sha256 algorithm
 unfolding message_digest
 digest_512 algorithm message e = sym (cond-false (has_sha256 algorithm) (sha256 message) (sha512 message) e)
 
-answered : {E : Type 0} (rows : List HookRow) (key : Key) (message digest signature : List ℕ) (result : Result Bool E) → digest ≡ message_digest key.algorithm message
-    → IfOk result (λ said. IsTrue said ↔ Any (IsRowOf key.algorithm key.bytes digest signature) rows) → IfOk result (λ said. said ≡ is_enrolled rows key message signature)
+answered : {E : Type 0} (rows : List HookRow) (key : Key) (message digest signature : List ℕ) (result : Result Bool E)
+    → digest ≡ message_digest key.algorithm message
+    → IfOk result (λ said. IsTrue said ↔ Any (IsRowOf key.algorithm key.bytes digest signature) rows)
+    → IfOk result (λ said. said ≡ is_enrolled rows key message signature)
 answered rows key message digest signature (Ok said) same answer =
-    answer_is_enrolled rows key message signature said (subst (λ (d : List ℕ). IsTrue said ↔ Any (IsRowOf key.algorithm key.bytes d signature) rows) same answer)
+    answer_is_enrolled rows key message signature said
+    (subst (λ (d : List ℕ). IsTrue said ↔ Any (IsRowOf key.algorithm key.bytes d signature) rows) same answer)
 answered rows key message digest signature (Err e) same answer = answer
 
-asks_key : {E : Type 0} (key : Key) (message digest signature : List ℕ) (old new : HookState) (result : Result Bool E) → digest ≡ message_digest key.algorithm message
+asks_key : {E : Type 0} (key : Key) (message digest signature : List ℕ) (old new : HookState) (result : Result Bool E)
+    → digest ≡ message_digest key.algorithm message
     → Verifies key.algorithm key.bytes digest signature old new result → AsksFor key message signature old new result
 asks_key key message digest signature old new result same verifies = record {
   asked = record { faults = verifies.faults; told = verifies.told; rows = verifies.rows };
@@ -34,8 +38,10 @@ asks_key key message digest signature old new result same verifies = record {
 }
 
 -- the bytes of the key were handed to the hook
-pub asks_for : {E : Type 0} (packed : PackedKey) (bytes message digest signature : List ℕ) (old new : HookState) (result : Result Bool E) → bytes ≡ take packed.size packed.bytes
-    → digest ≡ message_digest packed.algorithm message → Verifies packed.algorithm bytes digest signature old new result → AsksFor (key_of packed) message signature old new result
+pub asks_for : {E : Type 0} (packed : PackedKey) (bytes message digest signature : List ℕ) (old new : HookState) (result : Result Bool E)
+    → bytes ≡ take packed.size packed.bytes
+    → digest ≡ message_digest packed.algorithm message → Verifies packed.algorithm bytes digest signature old new result
+    → AsksFor (key_of packed) message signature old new result
 asks_for packed bytes message digest signature old new result front same verifies =
     asks_key (key_of packed) message digest signature old new result same
     (subst (λ (b : List ℕ). Verifies packed.algorithm b digest signature old new result) front verifies)

@@ -12,18 +12,36 @@ use Rattle.chain_core.specs.Tables.{keyblock_table, keyblock_front, data_key_lin
 use Rattle.chain_core.specs.Checking.{keyblock_question, view_question, ChecksKeyblock}
 use Rattle.chain_core.proofs.Said.{behind_all}
 
-pub keyblock_fault : {E : Type 0} (bytes : List ℕ) (signer : PackedKey) (stored : ℕ) (rollback : Bool) (old new : HookState) (fault : KeyblockFault) → Asked old new false
-    → AsksBehind {Answer = Result Keyblock KeyblockFault} {E = E} (first_fault keyblock_front (keyblock_question bytes signer stored rollback old)) old new (Ok (Err fault))
-    → (IsTrue old.told → first_fault keyblock_table (keyblock_question bytes signer stored rollback old) ≡ Some fault) → ChecksKeyblock {E = E} bytes signer stored rollback old new (Ok (Err fault))
+pub keyblock_fault : {E : Type 0} (bytes : List ℕ) (signer : PackedKey) (stored : ℕ) (rollback : Bool) (old new : HookState)
+    (fault : KeyblockFault) → Asked old new false
+    → AsksBehind {Answer = Result Keyblock KeyblockFault} {E = E}
+    (first_fault keyblock_front (keyblock_question bytes signer stored rollback old)) old new (Ok (Err fault))
+    → (IsTrue old.told → first_fault keyblock_table (keyblock_question bytes signer stored rollback old) ≡ Some fault)
+    → ChecksKeyblock {E = E} bytes signer stored rollback old new (Ok (Err fault))
 keyblock_fault bytes signer stored rollback old new fault asked behind found =
     record { asked = asked; behind = behind; fault = found; none = λ told. tt; front = tt; parts = tt; fits = tt; signed = tt; copy = tt; key = tt }
 
-pub keyblock_failed : {E : Type 0} (bytes : List ℕ) (signer : PackedKey) (stored : ℕ) (rollback : Bool) (old new : HookState) (e : E) → Asked old new true
-    → first_fault keyblock_front (keyblock_question bytes signer stored rollback old) ≡ None → ChecksKeyblock {E = E} bytes signer stored rollback old new (Err e)
+pub keyblock_failed : {E : Type 0} (bytes : List ℕ) (signer : PackedKey) (stored : ℕ) (rollback : Bool) (old new : HookState) (e : E)
+    → Asked old new true
+    → first_fault keyblock_front (keyblock_question bytes signer stored rollback old) ≡ None
+    → ChecksKeyblock {E = E} bytes signer stored rollback old new (Err e)
 keyblock_failed bytes signer stored rollback old new e asked front =
-    record { asked = asked; behind = behind_all _ old new (Err e) front; fault = λ told. tt; none = λ told. tt; front = tt; parts = tt; fits = tt; signed = tt; copy = tt; key = tt }
+    record {
+      asked = asked;
+      behind = behind_all _ old new
+          (Err e) front;
+      fault = λ told. tt;
+      none = λ told. tt;
+      front = tt;
+      parts = tt;
+      fits = tt;
+      signed = tt;
+      copy = tt;
+      key = tt;
+    }
 
-pub keyblock_good : {E : Type 0} (bytes : List ℕ) (signer : PackedKey) (stored : ℕ) (rollback : Bool) (old new : HookState) (keyblock : Keyblock) → Asked old new false
+pub keyblock_good : {E : Type 0} (bytes : List ℕ) (signer : PackedKey) (stored : ℕ) (rollback : Bool) (old new : HookState)
+    (keyblock : Keyblock) → Asked old new false
     → first_fault keyblock_front (keyblock_question bytes signer stored rollback old) ≡ None
     → (IsTrue old.told → first_fault keyblock_table (keyblock_question bytes signer stored rollback old) ≡ None)
     → keyblock ≡ keyblock_in seals.Signature bytes → KeyblockFits seals.Signature bytes keyblock → KeyblockIsSigned keyblock

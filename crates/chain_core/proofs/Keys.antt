@@ -28,12 +28,22 @@ pub record Known (algorithm size : ℕ) : Type 0 where
 pub signer_known : (key : KeyQuestion) → first_fault signer_lines key ≡ None → Known key.algorithm key.size
 signer_known key e =
     let none = first_fault-none signer_lines key e in
-    record { algorithm_known = not_over 17 key.algorithm none.0; not_sha1 = none.1.0; size_is = is_equal key.size (key_length key.algorithm) none.1.1.0 }
+    record {
+      algorithm_known = not_over 17 key.algorithm none.0;
+      not_sha1 = none.1.0;
+      size_is = is_equal key.size
+          (key_length key.algorithm) none.1.1.0;
+    }
 
 pub data_key_known : (key : DataKeyQuestion) → first_fault data_key_lines key ≡ None → Known key.algorithm key.size
 data_key_known key e =
     let none = first_fault-none data_key_lines key e in
-    record { algorithm_known = not_over 17 key.algorithm none.0; not_sha1 = none.1.0; size_is = is_equal key.size (key_length key.algorithm) none.1.1.0 }
+    record {
+      algorithm_known = not_over 17 key.algorithm none.0;
+      not_sha1 = none.1.0;
+      size_is = is_equal key.size
+          (key_length key.algorithm) none.1.1.0;
+    }
 
 pub data_key_range : (key : DataKeyQuestion) → first_fault data_key_lines key ≡ None → key.version ≤ 65535
 data_key_range key e = not_over 65535 key.version (first_fault-none data_key_lines key e).1.1.1.0

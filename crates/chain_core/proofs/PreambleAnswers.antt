@@ -66,7 +66,8 @@ is_some-named name (Some fault) = refl
 
 -- so the hook is asked behind the lines of the table as it is behind that one
 behind_shown : {E Preamble Fault : Type 0} (form : Form Preamble Fault) (bytes : List ℕ) (key : PackedKey) (stored : ℕ) (rollback : Bool)
-    (old new : HookState) (preamble : Preamble) (found : Option KernelPreambleFault) (answer : Result Preamble Fault) → Viewed form bytes preamble
+    (old new : HookState) (preamble : Preamble) (found : Option KernelPreambleFault) (answer : Result Preamble Fault)
+    → Viewed form bytes preamble
     → ChecksSignature {E = E} (signature_question (form.common preamble) key stored rollback old) old new (Ok found)
     → AsksBehind {E = E} (first_fault (front_of form) (preamble_question bytes key stored rollback old)) old new (Ok answer)
 behind_shown form bytes key stored rollback old new preamble found answer viewed checks =
@@ -76,34 +77,52 @@ behind_shown form bytes key stored rollback old new preamble found answer viewed
 
 -- ---- answers
 
-pub preamble_fault : {E Preamble Fault : Type 0} (form : Form Preamble Fault) (bytes : List ℕ) (key : PackedKey) (stored : ℕ) (rollback : Bool)
+pub preamble_fault : {E Preamble Fault : Type 0} (form : Form Preamble Fault) (bytes : List ℕ) (key : PackedKey) (stored : ℕ)
+    (rollback : Bool)
     (old new : HookState) (fault : Fault) → Asked old new false
-    → AsksBehind {Answer = Result Preamble Fault} {E = E} (first_fault (front_of form) (preamble_question bytes key stored rollback old)) old new (Ok (Err fault))
+    → AsksBehind {Answer = Result Preamble Fault} {E = E}
+    (first_fault (front_of form) (preamble_question bytes key stored rollback old)) old new (Ok (Err fault))
     → (IsTrue old.told → first_fault (table_of form) (preamble_question bytes key stored rollback old) ≡ Some fault)
     → ChecksPreamble {E = E} form bytes key stored rollback old new (Ok (Err fault))
 preamble_fault form bytes key stored rollback old new fault asked behind found =
     record { asked = asked; behind = behind; fault = found; none = λ told. tt; readable = tt; parts = tt; fits = tt; signed = tt; version = tt }
 
-pub preamble_failed : {E Preamble Fault : Type 0} (form : Form Preamble Fault) (bytes : List ℕ) (key : PackedKey) (stored : ℕ) (rollback : Bool)
+pub preamble_failed : {E Preamble Fault : Type 0} (form : Form Preamble Fault) (bytes : List ℕ) (key : PackedKey) (stored : ℕ)
+    (rollback : Bool)
     (old new : HookState) (preamble : Preamble) (e : E) → Asked old new true → Viewed form bytes preamble
     → first_fault signature_front (signature_question (form.common preamble) key stored rollback old) ≡ None
     → ChecksPreamble {E = E} form bytes key stored rollback old new (Err e)
 preamble_failed form bytes key stored rollback old new preamble e asked viewed front =
     let none = by_front form bytes key stored rollback old preamble viewed ∙ ap (named form.name) front in
-    record { asked = asked; behind = behind_all _ old new (Err e) none; fault = λ told. tt; none = λ told. tt; readable = tt; parts = tt; fits = tt; signed = tt; version = tt }
+    record {
+      asked = asked;
+      behind = behind_all _ old new
+          (Err e) none;
+      fault = λ told. tt;
+      none = λ told. tt;
+      readable = tt;
+      parts = tt;
+      fits = tt;
+      signed = tt;
+      version = tt;
+    }
 
 -- a line on the signature, under its name
-pub signature_shown : {E Preamble Fault : Type 0} (form : Form Preamble Fault) (bytes : List ℕ) (key : PackedKey) (stored : ℕ) (rollback : Bool)
+pub signature_shown : {E Preamble Fault : Type 0} (form : Form Preamble Fault) (bytes : List ℕ) (key : PackedKey) (stored : ℕ)
+    (rollback : Bool)
     (old new : HookState) (preamble : Preamble) (found : Option KernelPreambleFault) (fault : KernelPreambleFault) (answer : Fault)
     → Viewed form bytes preamble
     → ChecksSignature {E = E} (signature_question (form.common preamble) key stored rollback old) old new (Ok found)
     → found ≡ Some fault → answer ≡ form.name fault
     → ChecksPreamble {E = E} form bytes key stored rollback old new (Ok (Err answer))
 signature_shown form bytes key stored rollback old new preamble found fault answer viewed checks is called =
-    preamble_fault form bytes key stored rollback old new answer checks.asked (behind_shown form bytes key stored rollback old new preamble found (Err answer) viewed checks) (λ told.
-    by_lines form bytes key stored rollback old preamble viewed ∙ ap (named form.name) (sym (checks.fault told) ∙ is) ∙ ap Some (sym called))
+    preamble_fault form bytes key stored rollback old new answer checks.asked
+    (behind_shown form bytes key stored rollback old new preamble found (Err answer) viewed checks) (λ told.
+    by_lines form bytes key stored rollback old preamble viewed ∙ ap (named form.name) (sym (checks.fault told) ∙ is)
+    ∙ ap Some (sym called))
 
-pub preamble_good : {E Preamble Fault : Type 0} (form : Form Preamble Fault) (bytes : List ℕ) (key : PackedKey) (stored : ℕ) (rollback : Bool)
+pub preamble_good : {E Preamble Fault : Type 0} (form : Form Preamble Fault) (bytes : List ℕ) (key : PackedKey) (stored : ℕ)
+    (rollback : Bool)
     (old new : HookState) (preamble : Preamble) (found : Option KernelPreambleFault) → Viewed form bytes preamble
     → ChecksSignature {E = E} (signature_question (form.common preamble) key stored rollback old) old new (Ok found) → found ≡ None
     → ChecksPreamble {E = E} form bytes key stored rollback old new (Ok (Ok preamble))
@@ -119,8 +138,10 @@ preamble_good form bytes key stored rollback old new preamble found viewed check
   version = checks.version is;
 }
 
-pub preamble_answer : {E Preamble Fault : Type 0} (form : Form Preamble Fault) (bytes : List ℕ) (key : PackedKey) (stored : ℕ) (rollback : Bool)
+pub preamble_answer : {E Preamble Fault : Type 0} (form : Form Preamble Fault) (bytes : List ℕ) (key : PackedKey) (stored : ℕ)
+    (rollback : Bool)
     (old new : HookState) (result answer : Result (Result Preamble Fault) E)
     → ChecksPreamble form bytes key stored rollback old new result → result ≡ answer
     → ChecksPreamble form bytes key stored rollback old new answer
-preamble_answer form bytes key stored rollback old new result answer checks is = subst (ChecksPreamble form bytes key stored rollback old new) is checks
+preamble_answer form bytes key stored rollback old new result answer checks is = subst
+    (ChecksPreamble form bytes key stored rollback old new) is checks

@@ -12,7 +12,8 @@ use Rattle.key_core.specs.Parts.{Key}
 use Rattle.chain_core.specs.Hashing.{message_digest}
 use Rattle.chain_core.specs.Accepted.{is_row_of, is_enrolled}
 
-is_row_of-Decides : (number : ℕ) (key digest signature : List ℕ) (row : HookRow) → Decides (is_row_of number key digest signature row) (IsRowOf number key digest signature row)
+is_row_of-Decides : (number : ℕ) (key digest signature : List ℕ) (row : HookRow)
+    → Decides (is_row_of number key digest signature row) (IsRowOf number key digest signature row)
 is_row_of-Decides number key digest signature row =
     Decides-like (is_row_of number key digest signature row)
     (λ same. record { algorithm = same.0; key = same.1.0; digest_len = same.1.1.0; digest = same.1.1.1.0; signature = same.1.1.1.1 })
@@ -24,20 +25,24 @@ is_row_of-Decides number key digest signature row =
     (slice_eq-Decides Decides-eqb _ _ _ refl)))))
 
 -- some element is so exactly where its test finds one
-pub list_any-Decides : {X : Type 0} (p : X → Bool) (P : X → Type 0) → ((x : X) → Decides (p x) (P x)) → (xs : List X) → Decides (list_any p xs) (Any P xs)
+pub list_any-Decides : {X : Type 0} (p : X → Bool) (P : X → Type 0) → ((x : X) → Decides (p x) (P x)) → (xs : List X)
+    → Decides (list_any p xs) (Any P xs)
 list_any-Decides p P each xs = (
   λ yes. let found = Any-from_list_any p xs yes in (found.0, found.1, found.2, found.3, (each found.1).0 found.4),
   λ found. list_any-from_Any p xs (found.0, found.1, found.2, found.3, (each found.1).1 found.4),
 )
 
 -- a signature is enrolled exactly where its row is in the list
-pub is_enrolled-Decides : (rows : List HookRow) (key : Key) (message signature : List ℕ) → Decides (is_enrolled rows key message signature) (Any (IsRowOf key.algorithm key.bytes (message_digest key.algorithm message) signature) rows)
+pub is_enrolled-Decides : (rows : List HookRow) (key : Key) (message signature : List ℕ)
+    → Decides (is_enrolled rows key message signature)
+    (Any (IsRowOf key.algorithm key.bytes (message_digest key.algorithm message) signature) rows)
 unfolding is_enrolled
 is_enrolled-Decides rows key message signature =
     list_any-Decides _ _ (is_row_of-Decides key.algorithm key.bytes (message_digest key.algorithm message) signature) rows
 
 -- so the answer of a hook says whether it is
 pub answer_is_enrolled : (rows : List HookRow) (key : Key) (message signature : List ℕ) (told : Bool)
-    → (IsTrue told ↔ Any (IsRowOf key.algorithm key.bytes (message_digest key.algorithm message) signature) rows) → told ≡ is_enrolled rows key message signature
+    → (IsTrue told ↔ Any (IsRowOf key.algorithm key.bytes (message_digest key.algorithm message) signature) rows)
+    → told ≡ is_enrolled rows key message signature
 answer_is_enrolled rows key message signature told answer =
     one_answer told (is_enrolled rows key message signature) (answer.0, answer.1) (is_enrolled-Decides rows key message signature)

@@ -30,7 +30,8 @@ asked_then a b c failed first second =
     }
 
 -- no call, where a line before that of the signature holds
-pub behind_none : {Fault Answer E : Type 0} (front : Option Fault) (a : HookState) (answer : Answer) → AsksBehind {E = E} front a a (Ok answer)
+pub behind_none : {Fault Answer E : Type 0} (front : Option Fault) (a : HookState) (answer : Answer)
+    → AsksBehind {E = E} front a a (Ok answer)
 behind_none front a answer = record { unasked = λ some. refl; failed = tt }
 
 on_err : {Answer E : Type 0} (P : Type 0) (result : Result Answer E) → P → OnErr result P
@@ -38,7 +39,8 @@ on_err P (Ok answer) holds = tt
 on_err P (Err e) holds = holds
 
 -- calls, where none of these lines holds
-pub behind_all : {Fault Answer E : Type 0} (front : Option Fault) (old new : HookState) (result : Result Answer E) → front ≡ None → AsksBehind front old new result
+pub behind_all : {Fault Answer E : Type 0} (front : Option Fault) (old new : HookState) (result : Result Answer E) → front ≡ None
+    → AsksBehind front old new result
 behind_all {Fault} front old new result none =
     record { unasked = λ some. absurd (false≢true (ap is_some (sym none) ∙ some)); failed = on_err (front ≡ None) result none }
 
@@ -56,13 +58,17 @@ pub record Said (key : Key) (message signature : List ℕ) (old new : HookState)
   pub asked : Asked old new false
   pub says : IsTrue old.told → said ≡ is_enrolled old.rows key message signature
 
-pub said_of : {E : Type 0} (key : Key) (message signature message' signature' : List ℕ) (old new : HookState) (result : Result Bool E) (said : Bool)
-    → message' ≡ message → signature' ≡ signature → AsksFor key message' signature' old new result → result ≡ Ok said → Said key message signature old new said
+pub said_of : {E : Type 0} (key : Key) (message signature message' signature' : List ℕ) (old new : HookState) (result : Result Bool E)
+    (said : Bool)
+    → message' ≡ message → signature' ≡ signature → AsksFor key message' signature' old new result → result ≡ Ok said
+    → Said key message signature old new said
 said_of {E} key message signature message' signature' old new result said m s asks is = record {
   asked = subst (λ (r : Result Bool E). Asked old new (is_err r)) is asks.asked;
-  says = λ told. IfOk-at_ok (λ (b : Bool). b ≡ is_enrolled old.rows key message' signature') is (asks.answer told) ∙ ap (λ (x : List ℕ). is_enrolled old.rows key x signature') m ∙ ap (is_enrolled old.rows key message) s;
+  says = λ told. IfOk-at_ok (λ (b : Bool). b ≡ is_enrolled old.rows key message' signature') is (asks.answer told)
+      ∙ ap (λ (x : List ℕ). is_enrolled old.rows key x signature') m ∙ ap (is_enrolled old.rows key message) s;
 }
 
 -- a call that failed
-pub failed_of : {T E : Type 0} (old new : HookState) (result : Result T E) (e : E) → Asked old new (is_err result) → result ≡ Err e → Asked old new true
+pub failed_of : {T E : Type 0} (old new : HookState) (result : Result T E) (e : E) → Asked old new (is_err result) → result ≡ Err e
+    → Asked old new true
 failed_of {T} {E} old new result e asked is = subst (λ (r : Result T E). Asked old new (is_err r)) is asked

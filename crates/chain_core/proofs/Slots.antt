@@ -16,8 +16,12 @@ use Rattle.preamble_core.specs.declared.fault.FwPreambleFault.{FwPreambleFault}
 use Rattle.chain_core.specs.Hashing.{message_digest}
 use Rattle.chain_core.specs.Accepted.{Accepts, key_of, is_enrolled}
 use Rattle.preamble_core.specs.Lines.{lifted}
-use Rattle.chain_core.specs.Tables.{KeyblockQuestion, keyblock_of, keyblock_table, signer_lines, signer_question, seal_lines, data_key_lines, data_key_question, PreambleQuestion, SignatureQuestion, asked_of_signature, signature_lines, Form, table_of, preamble_table, firmware_preamble, combined_version, BodyQuestion, body_table}
-use Rattle.chain_core.specs.Slot.{SlotQuestion, slot_keyblock, slot_preamble, asked_of_keyblock, asked_of_preamble, asked_of_body, slot_table, slot_fault, FirmwareChain}
+use Rattle.chain_core.specs.Tables.{KeyblockQuestion, keyblock_of, keyblock_table, signer_lines, signer_question, seal_lines}
+use Rattle.chain_core.specs.Tables.{data_key_lines, data_key_question, PreambleQuestion, SignatureQuestion, asked_of_signature}
+use Rattle.chain_core.specs.Tables.{signature_lines, Form, table_of, preamble_table, firmware_preamble, combined_version, BodyQuestion}
+use Rattle.chain_core.specs.Tables.{body_table}
+use Rattle.chain_core.specs.Slot.{SlotQuestion, slot_keyblock, slot_preamble, asked_of_keyblock, asked_of_preamble, asked_of_body}
+use Rattle.chain_core.specs.Slot.{slot_table, slot_fault, FirmwareChain}
 use Rattle.chain_core.specs.declared.fault.BodyFault.{BodyFault}
 use Rattle.chain_core.specs.declared.slot_fault.SlotFault.{SlotFault}
 use Rattle.chain_core.specs.declared.slot_fault.SlotFault.TheVariants as slot_faults
@@ -37,24 +41,35 @@ preamble_part = lifted asked_of_preamble slot_faults.Preamble preamble_table
 abbrev body_part : Table SlotQuestion SlotFault
 body_part = lifted asked_of_body slot_faults.Body body_table
 
-pub at_keyblock : (q : SlotQuestion) (fault : KeyblockFault) → first_fault keyblock_table (asked_of_keyblock q) ≡ Some fault → slot_fault q ≡ Some (slot_faults.Keyblock fault)
+pub at_keyblock : (q : SlotQuestion) (fault : KeyblockFault) → first_fault keyblock_table (asked_of_keyblock q) ≡ Some fault
+    → slot_fault q ≡ Some (slot_faults.Keyblock fault)
 unfolding slot_table
-at_keyblock q fault e = first_fault-append_some keyblock_part (preamble_part ++ body_part) q (slot_faults.Keyblock fault) (lifted-some asked_of_keyblock slot_faults.Keyblock keyblock_table q fault e)
+at_keyblock q fault e = first_fault-append_some keyblock_part (preamble_part ++ body_part) q (slot_faults.Keyblock fault)
+    (lifted-some asked_of_keyblock slot_faults.Keyblock keyblock_table q fault e)
 
-behind : (q : SlotQuestion) → first_fault keyblock_table (asked_of_keyblock q) ≡ None → slot_fault q ≡ first_fault (preamble_part ++ body_part) q
+behind : (q : SlotQuestion) → first_fault keyblock_table (asked_of_keyblock q) ≡ None
+    → slot_fault q ≡ first_fault (preamble_part ++ body_part) q
 unfolding slot_table
-behind q none = first_fault-append keyblock_part (preamble_part ++ body_part) q (lifted-none asked_of_keyblock slot_faults.Keyblock keyblock_table q none)
+behind q none = first_fault-append keyblock_part (preamble_part ++ body_part) q
+    (lifted-none asked_of_keyblock slot_faults.Keyblock keyblock_table q none)
 
-pub at_preamble : (q : SlotQuestion) (fault : FwPreambleFault) → first_fault keyblock_table (asked_of_keyblock q) ≡ None → first_fault preamble_table (asked_of_preamble q) ≡ Some fault → slot_fault q ≡ Some (slot_faults.Preamble fault)
-at_preamble q fault none e = behind q none ∙ first_fault-append_some preamble_part body_part q (slot_faults.Preamble fault) (lifted-some asked_of_preamble slot_faults.Preamble preamble_table q fault e)
+pub at_preamble : (q : SlotQuestion) (fault : FwPreambleFault) → first_fault keyblock_table (asked_of_keyblock q) ≡ None
+    → first_fault preamble_table (asked_of_preamble q) ≡ Some fault → slot_fault q ≡ Some (slot_faults.Preamble fault)
+at_preamble q fault none e = behind q none ∙ first_fault-append_some preamble_part body_part q (slot_faults.Preamble fault)
+    (lifted-some asked_of_preamble slot_faults.Preamble preamble_table q fault e)
 
-last_part : (q : SlotQuestion) → first_fault keyblock_table (asked_of_keyblock q) ≡ None → first_fault preamble_table (asked_of_preamble q) ≡ None → slot_fault q ≡ first_fault body_part q
-last_part q none none' = behind q none ∙ first_fault-append preamble_part body_part q (lifted-none asked_of_preamble slot_faults.Preamble preamble_table q none')
+last_part : (q : SlotQuestion) → first_fault keyblock_table (asked_of_keyblock q) ≡ None
+    → first_fault preamble_table (asked_of_preamble q) ≡ None → slot_fault q ≡ first_fault body_part q
+last_part q none none' = behind q none ∙ first_fault-append preamble_part body_part q
+    (lifted-none asked_of_preamble slot_faults.Preamble preamble_table q none')
 
-pub at_body : (q : SlotQuestion) (fault : BodyFault) → first_fault keyblock_table (asked_of_keyblock q) ≡ None → first_fault preamble_table (asked_of_preamble q) ≡ None → first_fault body_table (asked_of_body q) ≡ Some fault → slot_fault q ≡ Some (slot_faults.Body fault)
+pub at_body : (q : SlotQuestion) (fault : BodyFault) → first_fault keyblock_table (asked_of_keyblock q) ≡ None
+    → first_fault preamble_table (asked_of_preamble q) ≡ None → first_fault body_table (asked_of_body q) ≡ Some fault
+    → slot_fault q ≡ Some (slot_faults.Body fault)
 at_body q fault none none' e = last_part q none none' ∙ lifted-some asked_of_body slot_faults.Body body_table q fault e
 
-pub nowhere : (q : SlotQuestion) → first_fault keyblock_table (asked_of_keyblock q) ≡ None → first_fault preamble_table (asked_of_preamble q) ≡ None → first_fault body_table (asked_of_body q) ≡ None → slot_fault q ≡ None
+pub nowhere : (q : SlotQuestion) → first_fault keyblock_table (asked_of_keyblock q) ≡ None
+    → first_fault preamble_table (asked_of_preamble q) ≡ None → first_fault body_table (asked_of_body q) ≡ None → slot_fault q ≡ None
 nowhere q none none' none'' = last_part q none none' ∙ lifted-none asked_of_body slot_faults.Body body_table q none''
 
 -- ---- the chain
@@ -63,11 +78,14 @@ is_yes : (b : Bool) → not b ≡ false → b ≡ true
 is_yes true e = refl
 is_yes false e = absurd cc
 
-enrolled_row : (rows : List HookRow) (key : Key) (message signature : List ℕ) → not (is_enrolled rows key message signature) ≡ false → Any (IsRowOf key.algorithm key.bytes (message_digest key.algorithm message) signature) rows
-enrolled_row rows key message signature e = (is_enrolled-Decides rows key message signature).0 (is_yes (is_enrolled rows key message signature) e)
+enrolled_row : (rows : List HookRow) (key : Key) (message signature : List ℕ) → not (is_enrolled rows key message signature) ≡ false
+    → Any (IsRowOf key.algorithm key.bytes (message_digest key.algorithm message) signature) rows
+enrolled_row rows key message signature e = (is_enrolled-Decides rows key message signature).0
+    (is_yes (is_enrolled rows key message signature) e)
 
 -- the lines after the views' own
-further_keyblock : (q : KeyblockQuestion) → first_fault keyblock_table q ≡ None → (first_fault signer_lines (signer_question q) ≡ None) × (first_fault seal_lines q ≡ None)
+further_keyblock : (q : KeyblockQuestion) → first_fault keyblock_table q ≡ None
+    → (first_fault signer_lines (signer_question q) ≡ None) × (first_fault seal_lines q ≡ None)
 unfolding keyblock_table
 further_keyblock q e =
     let same : KeyblockFault → KeyblockFault = λ fault. fault in
@@ -78,7 +96,8 @@ further_keyblock q e =
     let later = append-none signer (seal_lines ++ key) q rest.1 in
     (lifted-back signer_question same signer_lines q later.0, (append-none seal_lines key q later.1).0)
 
-pub accepts_keyblock : (q : KeyblockQuestion) → first_fault keyblock_table q ≡ None → length (key_of q.signer).bytes ≡ q.signer.size → KeyblockFits seals.Signature q.bytes (keyblock_of q)
+pub accepts_keyblock : (q : KeyblockQuestion) → first_fault keyblock_table q ≡ None → length (key_of q.signer).bytes ≡ q.signer.size
+    → KeyblockFits seals.Signature q.bytes (keyblock_of q)
     → Accepts q.rows (key_of q.signer) (keyblock_of q).seal_bytes (keyblock_of q).signed
 accepts_keyblock q e room fits =
     let further = further_keyblock q e in
@@ -119,11 +138,14 @@ no_older form q e checked =
     let version = combined_version q.key.version (common_in form.kind q.bytes).version in
     not_over version q.stored (subst (λ (b : Bool). (b && nat_lt version q.stored) ≡ false) checked none.1.1.1.0)
 
-body_signed : (q : BodyQuestion) → first_fault body_table q ≡ None → (not (q.signature_size == signature_length q.key.algorithm) ≡ false) × (not (is_enrolled q.rows q.key (take q.len q.bytes) q.signature) ≡ false)
+body_signed : (q : BodyQuestion) → first_fault body_table q ≡ None
+    → (not (q.signature_size == signature_length q.key.algorithm) ≡ false) ×
+    (not (is_enrolled q.rows q.key (take q.len q.bytes) q.signature) ≡ false)
 unfolding body_table
 body_signed q e = let none = first_fault-none body_table q e in (none.1.1.0, none.1.1.1.0)
 
-pub accepts_body : (q : BodyQuestion) → first_fault body_table q ≡ None → Known q.key.algorithm (length q.key.bytes) → length q.signature ≡ q.signature_size
+pub accepts_body : (q : BodyQuestion) → first_fault body_table q ≡ None → Known q.key.algorithm (length q.key.bytes)
+    → length q.signature ≡ q.signature_size
     → Accepts q.rows q.key q.signature (take q.len q.bytes)
 accepts_body q e known long =
     let signed = body_signed q e in

@@ -1,5 +1,6 @@
 -- When a signature is accepted, and what it is to ask a hook for it.
-use Rattle.std.specs.Prelude.{◌≡◌, ℕ, ◌≤◌, List, length, take, nat_eq, ◌==◌, ◌&&◌, Any, Bool, false, IsTrue, Option, None, IsSome, Result, is_err, IfOk, OnErr}
+use Rattle.std.specs.Prelude.{◌≡◌, ℕ, ◌≤◌, List, length, take, nat_eq, ◌==◌, ◌&&◌, Any, Bool, false, IsTrue, Option, None, IsSome, Result}
+use Rattle.std.specs.Prelude.{is_err, IfOk, OnErr}
 use Rattle.std.specs.List.{list_any}
 use Rattle.std.specs.Cmp.Lexicographic.{pointwise}
 use Rattle.sha2.specs.Sha256.{sha256}

@@ -1,5 +1,6 @@
 -- What the calls that read and check a body do.
-use Rattle.std.specs.Prelude.{◌≡◌, ℕ, ◌≤◌, Bool, true, false, IsTrue, List, ◌++◌, length, Option, IfNone, Result, Ok, Err, is_err, IfOk, OnOk}
+use Rattle.std.specs.Prelude.{◌≡◌, ℕ, ◌≤◌, Bool, true, false, IsTrue, List, ◌++◌, length, Option, IfNone, Result, Ok, Err, is_err, IfOk}
+use Rattle.std.specs.Prelude.{OnOk}
 use Rattle.wire_core.specs.FirstFault.{first_fault}
 use Rattle.board_core.specs.Flash.{FlashState, range}
 use Rattle.board_core.specs.Hook.{HookState}

@@ -1,6 +1,7 @@
 -- A firmware slot: its whole fault table, what a good one holds, and the chain of its signatures.
 -- Source: `vb2api_fw_phase3` and `vb2api_check_hash` of vboot_reference (firmware/2lib/2api.c, 2misc.c).
-use Rattle.std.specs.Prelude.{◌≡◌, ℕ, ◌≤◌, Bool, IsTrue, List, ◌++◌, length, take, drop, Option, Some, None, IsSome, Result, IfOk, IfErr, OnOk}
+use Rattle.std.specs.Prelude.{◌≡◌, ℕ, ◌≤◌, Bool, IsTrue, List, ◌++◌, length, take, drop, Option, Some, None, IsSome, Result, IfOk, IfErr}
+use Rattle.std.specs.Prelude.{OnOk}
 use Rattle.wire_core.specs.FirstFault.{Table, first_fault}
 use Rattle.board_core.specs.Flash.{FlashState}
 use Rattle.board_core.specs.Hook.{HookState}
@@ -19,7 +20,8 @@ use Rattle.preamble_core.specs.declared.common.PreambleKind.TheVariants as kinds
 use Rattle.rom_core.specs.Gbb.{Looks, area_bytes}
 use Rattle.chain_core.specs.Accepted.{Accepts, Asked, key_of}
 use Rattle.chain_core.specs.Bodies.{is_hook, store_failed, hook_failed}
-use Rattle.chain_core.specs.Tables.{KeyblockQuestion, keyblock_table, keyblock_front, PreambleQuestion, preamble_table, BodyQuestion, body_table, combined_version}
+use Rattle.chain_core.specs.Tables.{KeyblockQuestion, keyblock_table, keyblock_front, PreambleQuestion, preamble_table, BodyQuestion}
+use Rattle.chain_core.specs.Tables.{body_table, combined_version}
 use Rattle.chain_core.specs.declared.fault.Failure.{Failure}
 use Rattle.chain_core.specs.declared.slot.SlotRequest.{SlotRequest}
 use Rattle.chain_core.specs.declared.slot_fault.SlotFault.{SlotFault}

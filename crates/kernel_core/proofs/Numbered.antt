@@ -1,5 +1,6 @@
 -- Tables whose faults are numbered by their lines: a front of the table finds a fault exactly where its number is in it.
-use Rattle.std.proofs.Common.{◌≡◌, ℕ, zero, suc, ◌+◌, ◌≤◌, ◌<◌, Bool, true, false, cond, Option, Some, None, [], ◌∷◌, take, refl, sym, ap, ◌∙◌, arith, inl, inr, ◌⊎◌}
+use Rattle.std.proofs.Common.{◌≡◌, ℕ, zero, suc, ◌+◌, ◌≤◌, ◌<◌, Bool, true, false, cond, Option, Some, None, [], ◌∷◌, take, refl, sym, ap}
+use Rattle.std.proofs.Common.{◌∙◌, arith, inl, inr, ◌⊎◌}
 use Rattle.wire_core.specs.FirstFault.{Table, first_fault}
 use Rattle.wire_core.proofs.FirstFault.{first_fault-here, first_fault-later}
 
@@ -8,7 +9,8 @@ abbrev pub Numbered : {Q F : Type 0} → (F → ℕ) → ℕ → Table Q F → T
 Numbered number n [] = Unit {0}
 Numbered number n (l ∷ lines) = (number l.fault ≡ n) × Numbered number (suc n) lines
 
-some_fault : {F : Type 0} (b : Bool) (fault : F) (rest : Option F) (found : F) → cond b (Some fault) rest ≡ Some found → ((b ≡ true) × (fault ≡ found)) ⊎ ((b ≡ false) × (rest ≡ Some found))
+some_fault : {F : Type 0} (b : Bool) (fault : F) (rest : Option F) (found : F) → cond b (Some fault) rest ≡ Some found
+    → ((b ≡ true) × (fault ≡ found)) ⊎ ((b ≡ false) × (rest ≡ Some found))
 some_fault true fault rest found e = inl (refl, cc)
 some_fault false fault rest found e = inr (refl, e)
 
@@ -16,7 +18,8 @@ no_fault : {F : Type 0} (b : Bool) (fault : F) (rest : Option F) → cond b (Som
 no_fault true fault rest e = absurd cc
 no_fault false fault rest e = (refl, e)
 
-at_least : {Q F : Type 0} (number : F → ℕ) (n : ℕ) (table : Table Q F) (q : Q) (fault : F) → Numbered number n table → first_fault table q ≡ Some fault → n ≤ number fault
+at_least : {Q F : Type 0} (number : F → ℕ) (n : ℕ) (table : Table Q F) (q : Q) (fault : F) → Numbered number n table
+    → first_fault table q ≡ Some fault → n ≤ number fault
 at_least number n [] q fault numbered e = absurd cc
 at_least number n (l ∷ lines) q fault numbered e =
     elim (some_fault (l.test q) l.fault (first_fault lines q) fault e) [
@@ -25,8 +28,10 @@ at_least number n (l ∷ lines) q fault numbered e =
     ]
 
 -- a fault of a front is found by it
-pub in_front : {Q F : Type 0} (number : F → ℕ) (n k : ℕ) (table : Table Q F) (q : Q) (fault : F) → Numbered number n table → first_fault table q ≡ Some fault → number fault < n + k → first_fault (take k table) q ≡ Some fault
-in_front number n zero table q fault numbered e less = absurd (let more = at_least number n table q fault numbered e in omega (arith, more, less))
+pub in_front : {Q F : Type 0} (number : F → ℕ) (n k : ℕ) (table : Table Q F) (q : Q) (fault : F) → Numbered number n table
+    → first_fault table q ≡ Some fault → number fault < n + k → first_fault (take k table) q ≡ Some fault
+in_front number n zero table q fault numbered e less = absurd
+    (let more = at_least number n table q fault numbered e in omega (arith, more, less))
 in_front number n (suc k) [] q fault numbered e less = absurd cc
 in_front number n (suc k) (l ∷ lines) q fault numbered e less =
     elim (some_fault (l.test q) l.fault (first_fault lines q) fault e) [
@@ -35,7 +40,8 @@ in_front number n (suc k) (l ∷ lines) q fault numbered e less =
     ]
 
 -- and one behind it is not
-pub behind_front : {Q F : Type 0} (number : F → ℕ) (n k : ℕ) (table : Table Q F) (q : Q) (fault : F) → Numbered number n table → first_fault table q ≡ Some fault → n + k ≤ number fault → first_fault (take k table) q ≡ None
+pub behind_front : {Q F : Type 0} (number : F → ℕ) (n k : ℕ) (table : Table Q F) (q : Q) (fault : F) → Numbered number n table
+    → first_fault table q ≡ Some fault → n + k ≤ number fault → first_fault (take k table) q ≡ None
 behind_front number n zero table q fault numbered e more = refl
 behind_front number n (suc k) [] q fault numbered e more = absurd cc
 behind_front number n (suc k) (l ∷ lines) q fault numbered e more =

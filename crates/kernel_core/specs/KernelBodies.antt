@@ -1,7 +1,8 @@
 -- What the calls that read and check the body of a kernel do.
 -- Source: the reads of the body and `vb2_verify_data` in `vb2_load_partition` of vboot_reference
 -- (firmware/2lib/2load_kernel.c).
-use Rattle.std.specs.Prelude.{◌≡◌, ℕ, ◌+◌, ◌-◌, ◌*◌, ◌/◌, ◌≤◌, min, Bool, false, IsTrue, List, [], ◌++◌, length, take, drop, Option, IfNone, Result, is_err, IfOk, OnOk, nat_lt, if◌then◌else◌}
+use Rattle.std.specs.Prelude.{◌≡◌, ℕ, ◌+◌, ◌-◌, ◌*◌, ◌/◌, ◌≤◌, min, Bool, false, IsTrue, List, [], ◌++◌, length, take, drop, Option, IfNone}
+use Rattle.std.specs.Prelude.{Result, is_err, IfOk, OnOk, nat_lt, if◌then◌else◌}
 use Rattle.wire_core.specs.FirstFault.{first_fault}
 use Rattle.board_core.specs.Counters.{Observed}
 use Rattle.board_core.specs.Disk.{DiskMedium, DiskState, LeftDiskTorn}

@@ -16,7 +16,8 @@ use Rattle.preamble_core.specs.Kernel.{KernelPreamble, kernel_lines, kernel_prea
 use Rattle.preamble_core.specs.declared.common.PreambleKind.TheVariants as kinds
 use Rattle.preamble_core.specs.declared.fault.KernelPreambleFault.{KernelPreambleFault}
 use Rattle.preamble_core.specs.Lines.{lifted}
-use Rattle.chain_core.specs.Tables.{KeyblockQuestion, keyblock_table, keyblock_front, DataKeyQuestion, data_key_lines, PreambleQuestion, Form, table_of}
+use Rattle.chain_core.specs.Tables.{KeyblockQuestion, keyblock_table, keyblock_front, DataKeyQuestion, data_key_lines, PreambleQuestion}
+use Rattle.chain_core.specs.Tables.{Form, table_of}
 use Rattle.wire_core.specs.Fields.{number_at}
 use Rattle.kernel_core.specs.Rules.{hash_is_enough, flags_are_checked, versions_are_checked, developer_flag, recovery_flag}
 use Rattle.kernel_core.specs.declared.rules.KernelRules.{KernelRules}

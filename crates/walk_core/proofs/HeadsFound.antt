@@ -1,5 +1,6 @@
 -- Answers of the examination of a head.
-use Rattle.std.proofs.Common.{◌≡◌, ℕ, ◌*◌, ◌≤◌, ◌<◌, Bool, true, false, not, ◌&&◌, nat_le, Option, Some, None, List, Ok, Err, Result, refl, ap, sym, subst, ◌∙◌}
+use Rattle.std.proofs.Common.{◌≡◌, ℕ, ◌*◌, ◌≤◌, ◌<◌, Bool, true, false, not, ◌&&◌, nat_le, Option, Some, None, List, Ok, Err, Result, refl}
+use Rattle.std.proofs.Common.{ap, sym, subst, ◌∙◌}
 use Rattle.std.specs.Prelude.{IsTrue, OnOk, is_err, is_some}
 use Rattle.std.proofs.lemmas.Bool.{cond-true, cond-false, true≢false, le-leb, lt-leb}
 use Rattle.board_core.specs.Disk.{DiskState}
@@ -26,25 +27,31 @@ gt-test a b gt = lt-leb a b gt
 no_fault : (long : Bool) (fault : Option HeadFault) → long ≡ true → fault ≡ None → (long && not (is_some fault)) ≡ true
 no_fault long fault e none = rw (e, none) refl
 
-a_fault : (long : Bool) (fault : Option HeadFault) (what : HeadFault) → long ≡ true → fault ≡ Some what → (long && not (is_some fault)) ≡ false
+a_fault : (long : Bool) (fault : Option HeadFault) (what : HeadFault) → long ≡ true → fault ≡ Some what
+    → (long && not (is_some fault)) ≡ false
 a_fault long fault what e is = rw (e, is) refl
 
 too_short : (long good : Bool) → long ≡ false → (long && good) ≡ false
 too_short long good e = rw e refl
 
-good-none : (d : WalkQuestion) (first sectors : ℕ) → 128 ≤ sectors → head_fault (asked_of_head d first) ≡ None → has_good_head d first sectors ≡ true
+good-none : (d : WalkQuestion) (first sectors : ℕ) → 128 ≤ sectors → head_fault (asked_of_head d first) ≡ None
+    → has_good_head d first sectors ≡ true
 unfolding has_good_head
 good-none d first sectors long none = no_fault (nat_le 128 sectors) (head_fault (asked_of_head d first)) (le-test 128 sectors long) none
 
-bad-fault : (d : WalkQuestion) (first sectors : ℕ) (what : HeadFault) → 128 ≤ sectors → head_fault (asked_of_head d first) ≡ Some what → has_good_head d first sectors ≡ false
+bad-fault : (d : WalkQuestion) (first sectors : ℕ) (what : HeadFault) → 128 ≤ sectors → head_fault (asked_of_head d first) ≡ Some what
+    → has_good_head d first sectors ≡ false
 unfolding has_good_head
-bad-fault d first sectors what long is = a_fault (nat_le 128 sectors) (head_fault (asked_of_head d first)) what (le-test 128 sectors long) is
+bad-fault d first sectors what long is = a_fault (nat_le 128 sectors) (head_fault (asked_of_head d first)) what
+    (le-test 128 sectors long) is
 
 bad-short : (d : WalkQuestion) (first sectors : ℕ) → sectors < 128 → has_good_head d first sectors ≡ false
 unfolding has_good_head
-bad-short d first sectors short = too_short (nat_le 128 sectors) (not (is_some (head_fault (asked_of_head d first)))) (gt-test 128 sectors short)
+bad-short d first sectors short = too_short (nat_le 128 sectors) (not (is_some (head_fault (asked_of_head d first))))
+    (gt-test 128 sectors short)
 
-in-good : (d : WalkQuestion) (first sectors : ℕ) → has_good_head d first sectors ≡ true → head_in d first sectors ≡ Some (head_ok (asked_of_head d first))
+in-good : (d : WalkQuestion) (first sectors : ℕ) → has_good_head d first sectors ≡ true
+    → head_in d first sectors ≡ Some (head_ok (asked_of_head d first))
 in-good d first sectors good = cond-true (has_good_head d first sectors) (Some (head_ok (asked_of_head d first))) None good
 
 in-bad : (d : WalkQuestion) (first sectors : ℕ) → has_good_head d first sectors ≡ false → head_in d first sectors ≡ None
@@ -56,8 +63,10 @@ pub record HeadRead (d : WalkQuestion) (first : ℕ) (disk' : DiskState) (vblock
   pub looks : LooksAtDisk 128 d.disk disk' false
   pub filled : IsTrue d.disk.medium.told → vblock ≡ head_bytes d first
 
-pub head_read : {E : Type 0} (d : WalkQuestion) (first : ℕ) (disk' : DiskState) (vblock : List ℕ) (read : Result Unit E) → is_err read ≡ false
-    → LooksAtDisk 128 d.disk disk' (is_err read) → (IsTrue disk'.medium.told → OnOk read (vblock ≡ range disk'.medium.bytes (first * 512) 65536))
+pub head_read : {E : Type 0} (d : WalkQuestion) (first : ℕ) (disk' : DiskState) (vblock : List ℕ) (read : Result Unit E)
+    → is_err read ≡ false
+    → LooksAtDisk 128 d.disk disk' (is_err read)
+    → (IsTrue disk'.medium.told → OnOk read (vblock ≡ range disk'.medium.bytes (first * 512) 65536))
     → HeadRead d first disk' vblock
 head_read d first disk' vblock (Ok x) e looks filled = record {
   looks = looks;
@@ -67,7 +76,8 @@ head_read d first disk' vblock (Err x) e looks filled = absurd (true≢false e)
 
 -- ---- the exits
 
-pub short_head : (d : WalkQuestion) (first sectors : ℕ) (vblock : List ℕ) → sectors < 128 → ExaminesHead d first sectors d.disk d.hook vblock (Ok None)
+pub short_head : (d : WalkQuestion) (first sectors : ℕ) (vblock : List ℕ) → sectors < 128
+    → ExaminesHead d first sectors d.disk d.hook vblock (Ok None)
 short_head d first sectors vblock short = record {
   looks = looks_none 128 d.disk;
   asked = asked_none d.hook;
@@ -75,7 +85,8 @@ short_head d first sectors vblock short = record {
   found = tt;
 }
 
-pub good_head : {E : Type 0} (d : WalkQuestion) (first sectors : ℕ) (disk' : DiskState) (hook' : HookState) (vblock : List ℕ) (head : HeadOk) (result : Result (Result HeadOk HeadFault) E)
+pub good_head : {E : Type 0} (d : WalkQuestion) (first sectors : ℕ) (disk' : DiskState) (hook' : HookState) (vblock : List ℕ)
+    (head : HeadOk) (result : Result (Result HeadOk HeadFault) E)
     → 128 ≤ sectors → HeadRead d first disk' vblock
     → VerifiesHead (head_question vblock d.key d.rules d.hook) d.hook hook' result → result ≡ Ok (Ok head)
     → ExaminesHead d first sectors disk' hook' vblock (Ok (Some head))
@@ -87,18 +98,21 @@ good_head d first sectors disk' hook' vblock head result long read verifies is =
       asked = meets.asked;
       head = λ told told'.
           ap Some (meets.ok ∙ ap (λ (bytes : List ℕ). head_ok (q bytes)) (read.filled told))
-          ∙ sym (in-good d first sectors (good-none d first sectors long (subst (λ (bytes : List ℕ). head_fault (q bytes) ≡ None) (read.filled told) (meets.none told'))));
+          ∙ sym (in-good d first sectors (good-none d first sectors long
+          (subst (λ (bytes : List ℕ). head_fault (q bytes) ≡ None) (read.filled told) (meets.none told'))));
       found = record {
         long = long;
         is_head = meets.head;
         filled = read.filled;
         ok = λ told. meets.ok ∙ ap (λ (bytes : List ℕ). head_ok (q bytes)) (read.filled told);
-        good = λ told told'. good-none d first sectors long (subst (λ (bytes : List ℕ). head_fault (q bytes) ≡ None) (read.filled told) (meets.none told'));
+        good = λ told told'. good-none d first sectors long
+            (subst (λ (bytes : List ℕ). head_fault (q bytes) ≡ None) (read.filled told) (meets.none told'));
         chain = λ told told'. subst (λ (bytes : List ℕ). HeadChain (q bytes)) (read.filled told) (meets.chain told');
       };
     }
 
-pub bad_head : {E : Type 0} (d : WalkQuestion) (first sectors : ℕ) (disk' : DiskState) (hook' : HookState) (vblock : List ℕ) (fault : HeadFault) (result : Result (Result HeadOk HeadFault) E)
+pub bad_head : {E : Type 0} (d : WalkQuestion) (first sectors : ℕ) (disk' : DiskState) (hook' : HookState) (vblock : List ℕ)
+    (fault : HeadFault) (result : Result (Result HeadOk HeadFault) E)
     → 128 ≤ sectors → HeadRead d first disk' vblock
     → VerifiesHead (head_question vblock d.key d.rules d.hook) d.hook hook' result → result ≡ Ok (Err fault)
     → ExaminesHead d first sectors disk' hook' vblock (Ok None)
@@ -108,6 +122,8 @@ bad_head d first sectors disk' hook' vblock fault result long read verifies is =
     record {
       looks = read.looks;
       asked = meets.asked;
-      head = λ told told'. sym (in-bad d first sectors (bad-fault d first sectors fault long (subst (λ (bytes : List ℕ). head_fault (q bytes) ≡ Some fault) (read.filled told) (meets.fault told'))));
+      head = λ told told'. sym (in-bad d first sectors
+          (bad-fault d first sectors fault long (subst (λ (bytes : List ℕ). head_fault (q bytes) ≡ Some fault) (read.filled told)
+          (meets.fault told'))));
       found = tt;
     }

@@ -1,5 +1,7 @@
 -- The heads of the candidates behind the chosen one: what is known after so many of them.
-use Rattle.std.proofs.Common.{◌≡◌, ℕ, ◌+◌, ◌*◌, ◌%◌, ◌<◌, ◌≤◌, ◌≢◌, ◌⊎◌, inl, inr, min, Bool, true, false, cond, Option, Some, None, is_some, List, length, get_or, set, replicate, Ok, Err, refl, ap, sym, subst, ◌∙◌, arith, true≢false, length-set}
+use Rattle.std.proofs.Common.{◌≡◌, ℕ, ◌+◌, ◌*◌, ◌%◌, ◌<◌, ◌≤◌, ◌≢◌, ◌⊎◌, inl, inr, min, Bool, true, false, cond, Option, Some, None}
+use Rattle.std.proofs.Common.{is_some, List, length, get_or, set, replicate, Ok, Err, refl, ap, sym, subst, ◌∙◌, arith, true≢false}
+use Rattle.std.proofs.Common.{length-set}
 use Rattle.std.specs.Prelude.{IsTrue}
 use Rattle.std.proofs.lemmas.Bool.{false≢true}
 use Rattle.std.proofs.lemmas.List.{get_or-set_same, get_or-set_other, get_or-replicate, get_or_past}
@@ -20,7 +22,8 @@ use Rattle.walk_core.specs.declared.later.Later.{Later}
 use Rattle.walk_core.proofs.SameDrives.{HeadAfter}
 
 -- What is known after so many of them.
-pub record KnownAfter (d : WalkQuestion) (entries ranks : List ℕ) (version place : ℕ) (disk' : DiskState) (hook' : HookState) (later : Later) : Type 0 where
+pub record KnownAfter (d : WalkQuestion) (entries ranks : List ℕ) (version place : ℕ) (disk' : DiskState) (hook' : HookState)
+    (later : Later) : Type 0 where
   pub size : length later.bad ≡ 128
   pub looks : LooksAtDisk (128 * place) d.disk disk' false
   pub asked : Asked d.hook hook' false
@@ -37,7 +40,8 @@ unmarked k =
 none_marked : (k : ℕ) → get_or (replicate 128 false) k false ≡ true → ⊥
 none_marked k e = false≢true (sym (unmarked k) ∙ e)
 
-none_known : (d : WalkQuestion) (entries ranks : List ℕ) (version : ℕ) → KnownAfter d entries ranks version 0 d.disk d.hook (none_later version)
+none_known : (d : WalkQuestion) (entries ranks : List ℕ) (version : ℕ)
+    → KnownAfter d entries ranks version 0 d.disk d.hook (none_later version)
 none_known d entries ranks version = record {
   size = refl;
   looks = looks_none 0 d.disk;
@@ -51,8 +55,10 @@ none_known d entries ranks version = record {
   };
 }
 
-pub known_none : (d : WalkQuestion) (entries ranks : List ℕ) (version : ℕ) (later : Later) → later ≡ none_later version → KnownAfter d entries ranks version 0 d.disk d.hook later
-known_none d entries ranks version later is = subst (λ (l : Later). KnownAfter d entries ranks version 0 d.disk d.hook l) (sym is) (none_known d entries ranks version)
+pub known_none : (d : WalkQuestion) (entries ranks : List ℕ) (version : ℕ) (later : Later) → later ≡ none_later version
+    → KnownAfter d entries ranks version 0 d.disk d.hook later
+known_none d entries ranks version later is = subst (λ (l : Later). KnownAfter d entries ranks version 0 d.disk d.hook l) (sym is)
+    (none_known d entries ranks version)
 
 -- ---- one more
 
@@ -104,11 +110,19 @@ same_version : (good : Bool) (head head' : HeadOk) → Some head' ≡ cond good 
 same_version true head head' e = ap version_of e
 same_version false head head' e = absurd (true≢false (ap (λ (o : Option HeadOk). is_some o) e))
 
-longer : (d : WalkQuestion) (entries ranks : List ℕ) (place lowest lowest' : ℕ) → lowest' ≡ lowest → HasVersion d entries ranks place lowest → HasVersion d entries ranks (place + 1) lowest'
-longer d entries ranks place lowest lowest' same has = record { place = has.place; inside = omega (arith, has.inside); good = has.good; same = same ∙ has.same }
+longer : (d : WalkQuestion) (entries ranks : List ℕ) (place lowest lowest' : ℕ) → lowest' ≡ lowest → HasVersion d entries ranks place lowest
+    → HasVersion d entries ranks (place + 1) lowest'
+longer d entries ranks place lowest lowest' same has = record {
+  place = has.place;
+  inside = omega
+      (arith, has.inside);
+  good = has.good;
+  same = same ∙ has.same;
+}
 
 -- its head is good
-least_one : (d : WalkQuestion) (entries ranks : List ℕ) (version place here lowest : ℕ) → head_is_good d entries (entry_in_order ranks place) ≡ true
+least_one : (d : WalkQuestion) (entries ranks : List ℕ) (version place here lowest : ℕ)
+    → head_is_good d entries (entry_in_order ranks place) ≡ true
     → here ≡ (head_of d entries (entry_in_order ranks place)).version
     → (lowest ≡ version) ⊎ HasVersion d entries ranks place lowest
     → (min lowest here ≡ version) ⊎ HasVersion d entries ranks (place + 1) (min lowest here)
@@ -121,7 +135,8 @@ least_one d entries ranks version place here lowest good is one =
       | inr new ↦ inr (record { place = place; inside = before_next place; good = good; same = new ∙ is })
     ]
 
-good_noted : (d : WalkQuestion) (entries ranks : List ℕ) (version place : ℕ) (later : Later) (head : HeadOk) → Knows d entries ranks version place later
+good_noted : (d : WalkQuestion) (entries ranks : List ℕ) (version place : ℕ) (later : Later) (head : HeadOk)
+    → Knows d entries ranks version place later
     → head_is_good d entries (entry_in_order ranks place) ≡ true → head.version ≡ (head_of d entries (entry_in_order ranks place)).version
     → Knows d entries ranks version (place + 1) (record later { lowest = min later.lowest head.version })
 good_noted d entries ranks version place later head knows good is = record {
@@ -141,7 +156,8 @@ good_noted d entries ranks version place later head knows good is = record {
 }
 
 -- its head is bad
-bad_noted : (d : WalkQuestion) (entries ranks : List ℕ) (version place : ℕ) (later : Later) → length later.bad ≡ 128 → Knows d entries ranks version place later
+bad_noted : (d : WalkQuestion) (entries ranks : List ℕ) (version place : ℕ) (later : Later) → length later.bad ≡ 128
+    → Knows d entries ranks version place later
     → head_is_good d entries (entry_in_order ranks place) ≡ false
     → Knows d entries ranks version (place + 1) (record later { bad = set later.bad (entry_in_order ranks place) true })
 bad_noted d entries ranks version place later size knows bad =
@@ -170,12 +186,14 @@ bad_noted d entries ranks version place later size knows bad =
       ];
     }
 
-known_noted : (d : WalkQuestion) (entries ranks : List ℕ) (version place : ℕ) (later : Later) (head : Option HeadOk) → length later.bad ≡ 128 → Knows d entries ranks version place later
+known_noted : (d : WalkQuestion) (entries ranks : List ℕ) (version place : ℕ) (later : Later) (head : Option HeadOk)
+    → length later.bad ≡ 128 → Knows d entries ranks version place later
     → head ≡ cond (head_is_good d entries (entry_in_order ranks place)) (Some (head_of d entries (entry_in_order ranks place))) None
     → Knows d entries ranks version (place + 1) (noted later (get_or ranks place 0) head)
 known_noted d entries ranks version place later (Some head) size knows is =
     let k = entry_in_order ranks place in
-    good_noted d entries ranks version place later head knows (some_here (head_is_good d entries k) (head_of d entries k) head is) (same_version (head_is_good d entries k) (head_of d entries k) head is)
+    good_noted d entries ranks version place later head knows (some_here (head_is_good d entries k) (head_of d entries k) head is)
+    (same_version (head_is_good d entries k) (head_of d entries k) head is)
 known_noted d entries ranks version place later None size knows is =
     let k = entry_in_order ranks place in
     bad_noted d entries ranks version place later size knows (none_here (head_is_good d entries k) (head_of d entries k) is)
@@ -184,21 +202,25 @@ size_noted : (later : Later) (rank : ℕ) (head : Option HeadOk) → length late
 size_noted later rank (Some head) size = size
 size_noted later rank None size = length-set later.bad (entry_at rank) true ∙ size
 
-pub known_more : (d : WalkQuestion) (entries ranks : List ℕ) (version place : ℕ) (disk' disk'' : DiskState) (hook' hook'' : HookState) (later later' : Later) (head : Option HeadOk)
+pub known_more : (d : WalkQuestion) (entries ranks : List ℕ) (version place : ℕ) (disk' disk'' : DiskState) (hook' hook'' : HookState)
+    (later later' : Later) (head : Option HeadOk)
     → KnownAfter d entries ranks version place disk' hook' later
-    → HeadAfter (128 * place) d (first_in entries (entry_in_order ranks place)) (sectors_in entries (entry_in_order ranks place)) disk'' hook'' (Ok head)
+    → HeadAfter (128 * place) d (first_in entries (entry_in_order ranks place))
+    (sectors_in entries (entry_in_order ranks place)) disk'' hook'' (Ok head)
     → later' ≡ noted later (get_or ranks place 0) head → KnownAfter d entries ranks version (place + 1) disk'' hook'' later'
 known_more d entries ranks version place disk' disk'' hook' hook'' later later' head known after is =
     subst (λ (l : Later). KnownAfter d entries ranks version (place + 1) disk'' hook'' l) (sym is) (record {
       size = size_noted later (get_or ranks place 0) head known.size;
       looks = subst (λ (n : ℕ). LooksAtDisk n d.disk disk'' false) (one_more place) after.looks;
       asked = after.asked;
-      knows = λ told told'. known_noted d entries ranks version place later head known.size (known.knows told told') (after.head told told');
+      knows = λ told told'. known_noted d entries ranks version place later head known.size (known.knows told told')
+          (after.head told told');
     })
 
 -- ---- the exits
 
-pub later_known : (d : WalkQuestion) (entries ranks : List ℕ) (version place : ℕ) (disk' : DiskState) (hook' : HookState) (later : Later) → place ≡ length ranks
+pub later_known : (d : WalkQuestion) (entries ranks : List ℕ) (version place : ℕ) (disk' : DiskState) (hook' : HookState) (later : Later)
+    → place ≡ length ranks
     → KnownAfter d entries ranks version place disk' hook' later → CountsLater d entries ranks version disk' hook' (Ok later)
 later_known d entries ranks version place disk' hook' later end known = record {
   looks = subst (λ (n : ℕ). LooksAtDisk (128 * n) d.disk disk' false) end known.looks;
@@ -206,10 +228,12 @@ later_known d entries ranks version place disk' hook' later end known = record {
   knows = λ told told'. subst (λ (n : ℕ). Knows d entries ranks version n later) end (known.knows told told');
 }
 
-pub later_failed : (d : WalkQuestion) (entries ranks : List ℕ) (version place first sectors : ℕ) (disk'' : DiskState) (hook'' : HookState) (failure : Failure) → place < length ranks
+pub later_failed : (d : WalkQuestion) (entries ranks : List ℕ) (version place first sectors : ℕ) (disk'' : DiskState) (hook'' : HookState)
+    (failure : Failure) → place < length ranks
     → HeadAfter (128 * place) d first sectors disk'' hook'' (Err failure) → CountsLater d entries ranks version disk'' hook'' (Err failure)
 later_failed d entries ranks version place first sectors disk'' hook'' failure inside after = record {
-  looks = looks_more (128 * place + 128) (128 * length ranks) d.disk disk'' (store_failed {T = Option HeadOk} (Err failure)) (omega (arith, inside)) after.looks;
+  looks = looks_more (128 * place + 128) (128 * length ranks) d.disk disk'' (store_failed {T = Option HeadOk} (Err failure))
+      (omega (arith, inside)) after.looks;
   asked = after.asked;
   knows = λ told told'. tt;
 }

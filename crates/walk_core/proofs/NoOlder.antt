@@ -24,18 +24,21 @@ use Rattle.walk_core.proofs.Choices.{is_chosen, least_most}
 
 -- ---- a good head
 
-no_preamble_fault : (keyblock : Option KeyblockFault) (preamble : Option KernelPreambleFault) → not (is_some (first_of keyblock preamble)) ≡ true → preamble ≡ None
+no_preamble_fault : (keyblock : Option KeyblockFault) (preamble : Option KernelPreambleFault)
+    → not (is_some (first_of keyblock preamble)) ≡ true → preamble ≡ None
 no_preamble_fault (Some fault) preamble good = absurd (true≢false (sym good))
 no_preamble_fault None (Some fault) good = absurd (true≢false (sym good))
 no_preamble_fault None None good = refl
 
-head_no_older : (q : HeadQuestion) → not (is_some (head_fault q)) ≡ true → IsTrue (versions_are_checked q.rules) → q.rules.stored ≤ (head_ok q).version
+head_no_older : (q : HeadQuestion) → not (is_some (head_fault q)) ≡ true → IsTrue (versions_are_checked q.rules)
+    → q.rules.stored ≤ (head_ok q).version
 head_no_older q good checked =
     let none : first_fault kernel_preamble_table (asked_of_preamble q) ≡ None =
     no_preamble_fault (kernel_keyblock_fault (asked_of_keyblock q)) (first_fault kernel_preamble_table (asked_of_preamble q)) good in
     preamble_no_older kernel_preamble (asked_of_preamble q) none checked
 
-good_no_older : (d : WalkQuestion) (first sectors : ℕ) → is_good d first sectors ≡ true → IsTrue (versions_are_checked d.rules) → d.rules.stored ≤ (head_ok (asked_of_head d first)).version
+good_no_older : (d : WalkQuestion) (first sectors : ℕ) → is_good d first sectors ≡ true → IsTrue (versions_are_checked d.rules)
+    → d.rules.stored ≤ (head_ok (asked_of_head d first)).version
 unfolding has_good_head
 good_no_older d first sectors good checked =
     let head = and_parts (has_good_head d first sectors) (not (is_some (body_fault d first sectors))) good in
@@ -48,18 +51,23 @@ abbrev version_in : Option Kernel → ℕ
 version_in None = 0
 version_in (Some kernel) = kernel.version
 
-chosen_no_older : (d : WalkQuestion) (entries : List ℕ) (c : Option ℕ) (kernel : Kernel) → Chosen d entries c → kernel_at d entries c ≡ Some kernel → IsTrue (versions_are_checked d.rules) → d.rules.stored ≤ kernel.version
+chosen_no_older : (d : WalkQuestion) (entries : List ℕ) (c : Option ℕ) (kernel : Kernel) → Chosen d entries c
+    → kernel_at d entries c ≡ Some kernel → IsTrue (versions_are_checked d.rules) → d.rules.stored ≤ kernel.version
 chosen_no_older d entries None kernel chosen is checked = absurd (true≢false (sym (ap is_some is)))
 chosen_no_older d entries (Some k) kernel chosen is checked =
     let both = and_parts (is_candidate entries k) (kernel_is_good d entries k) chosen.good in
-    let older : d.rules.stored ≤ (head_of d entries k).version = good_no_older d (first_in entries k) (sectors_in entries k) both.1 checked in
+    let older : d.rules.stored ≤ (head_of d entries k).version = good_no_older d (first_in entries k)
+    (sectors_in entries k) both.1 checked in
     subst (λ (n : ℕ). d.rules.stored ≤ n) (ap version_in is) older
 
-seen_by_no_older : (d : WalkQuestion) (o : Option PartitionTable) (kernel : Kernel) → kernel_of (seen_by d o) ≡ Some kernel → IsTrue (versions_are_checked d.rules) → d.rules.stored ≤ kernel.version
+seen_by_no_older : (d : WalkQuestion) (o : Option PartitionTable) (kernel : Kernel) → kernel_of (seen_by d o) ≡ Some kernel
+    → IsTrue (versions_are_checked d.rules) → d.rules.stored ≤ kernel.version
 seen_by_no_older d None kernel is checked = absurd (true≢false (sym (ap is_some is)))
-seen_by_no_older d (Some table) kernel is checked = chosen_no_older d table.entries (chosen_in d table.entries) kernel (is_chosen d table.entries) is checked
+seen_by_no_older d (Some table) kernel is checked = chosen_no_older d table.entries (chosen_in d table.entries) kernel
+    (is_chosen d table.entries) is checked
 
-pub no_older : (d : WalkQuestion) (kernel : Kernel) → kernel_of (seen_in d) ≡ Some kernel → IsTrue (versions_are_checked d.rules) → d.rules.stored ≤ kernel.version
+pub no_older : (d : WalkQuestion) (kernel : Kernel) → kernel_of (seen_in d) ≡ Some kernel → IsTrue (versions_are_checked d.rules)
+    → d.rules.stored ≤ kernel.version
 unfolding seen_in
 no_older d kernel is checked = seen_by_no_older d (table_on d.disk.medium) kernel is checked
 

@@ -1,5 +1,6 @@
 -- The candidates in order: each rank is that of a candidate, and each candidate has its place.
-use Rattle.std.proofs.Common.{◌≡◌, ℕ, zero, suc, ◌+◌, ◌-◌, ◌*◌, ◌%◌, ◌<◌, ◌≤◌, ◌⊎◌, inl, inr, Bool, true, false, List, [], ◌∷◌, ◌++◌, All, Contains, length, get_or, refl, ap, sym, subst, ◌∙◌, arith, append-nil, true≢false}
+use Rattle.std.proofs.Common.{◌≡◌, ℕ, zero, suc, ◌+◌, ◌-◌, ◌*◌, ◌%◌, ◌<◌, ◌≤◌, ◌⊎◌, inl, inr, Bool, true, false, List, [], ◌∷◌, ◌++◌, All}
+use Rattle.std.proofs.Common.{Contains, length, get_or, refl, ap, sym, subst, ◌∙◌, arith, append-nil, true≢false}
 use Rattle.std.specs.Prelude.{if◌then◌else◌}
 use Rattle.std.proofs.lemmas.List.{get_or_default}
 use Rattle.std.proofs.lemmas.List.Elements.{All-nil, All-push, All-weaker, All-get_or, Contains-append_left, Contains-push}
@@ -28,7 +29,8 @@ more_ranked : (k : ℕ) (entries ranks : List ℕ) (b : Bool) → is_candidate e
 more_ranked k entries ranks true is below all =
     let rest : entry_at (rank_in entries k) ≡ k = rank_rest entries k below in
     All-push (IsRankBelow entries (suc k)) ranks (rank_in entries k)
-    (All-weaker (IsRankBelow entries k) (IsRankBelow entries (suc k)) (λ rank one. record { below = omega (arith, one.below); candidate = one.candidate; same = one.same }) ranks all)
+    (All-weaker (IsRankBelow entries k) (IsRankBelow entries (suc k))
+    (λ rank one. record { below = omega (arith, one.below); candidate = one.candidate; same = one.same }) ranks all)
     (record {
       below = omega (arith, rest);
       candidate = ap (is_candidate entries) rest ∙ is;
@@ -36,16 +38,19 @@ more_ranked k entries ranks true is below all =
     })
 more_ranked k entries ranks false is below all =
     subst (All (IsRankBelow entries (suc k))) (sym (append-nil ranks))
-    (All-weaker (IsRankBelow entries k) (IsRankBelow entries (suc k)) (λ rank one. record { below = omega (arith, one.below); candidate = one.candidate; same = one.same }) ranks all)
+    (All-weaker (IsRankBelow entries k) (IsRankBelow entries (suc k))
+    (λ rank one. record { below = omega (arith, one.below); candidate = one.candidate; same = one.same }) ranks all)
 
 all_ranked : (n : ℕ) (entries : List ℕ) → n ≤ 128 → All (IsRankBelow entries n) (ranks_among n entries)
 unfolding ranks_among
 all_ranked zero entries few = All-nil (IsRankBelow entries 0)
-all_ranked (suc k) entries few = more_ranked k entries (ranks_among k entries) (is_candidate entries k) refl (omega arith) (all_ranked k entries (omega arith))
+all_ranked (suc k) entries few = more_ranked k entries (ranks_among k entries) (is_candidate entries k) refl (omega arith)
+    (all_ranked k entries (omega arith))
 
 -- ---- each candidate has its place
 
-with_rank : (n : ℕ) (entries ranks : List ℕ) (b : Bool) → b ≡ true → Contains (ranks ++ (if b then rank_in entries n ∷ [] else [])) (rank_in entries n)
+with_rank : (n : ℕ) (entries ranks : List ℕ) (b : Bool) → b ≡ true
+    → Contains (ranks ++ (if b then rank_in entries n ∷ [] else [])) (rank_in entries n)
 with_rank n entries ranks true is = Contains-push ranks (rank_in entries n)
 with_rank n entries ranks false is = absurd (true≢false (sym is))
 
@@ -69,7 +74,12 @@ pub record HasPlace (entries ranks : List ℕ) (k : ℕ) : Type 0 where
   pub is : get_or ranks place 0 ≡ rank_in entries k
 
 has_place : (entries ranks : List ℕ) (k : ℕ) → Contains ranks (rank_in entries k) → HasPlace entries ranks k
-has_place entries ranks k (place, inside, is) = record { place = place; inside = inside; is = get_or_default ranks place 0 (rank_in entries k) inside ∙ is }
+has_place entries ranks k (place, inside, is) = record {
+  place = place;
+  inside = inside;
+  is = get_or_default ranks place 0
+      (rank_in entries k) inside ∙ is;
+}
 
 pub record Ordered (entries ranks : List ℕ) : Type 0 where
   pub ranked : (place : ℕ) → place < length ranks → IsRankBelow entries 128 (get_or ranks place 0)
@@ -81,7 +91,8 @@ ordered entries ranks are = record {
   ranked = λ place inside. All-get_or (IsRankBelow entries 128) ranks place 0 inside
       (All-permutation (IsRankBelow entries 128) (ranks_among 128 entries) ranks are.all (all_ranked 128 entries (omega arith)));
   order = λ i j le inside. are.ordered i j 0 le inside;
-  places = λ k below is. has_place entries ranks k (Contains-permutation (ranks_among 128 entries) ranks (rank_in entries k) are.all (all_contained 128 k entries below is));
+  places = λ k below is. has_place entries ranks k
+      (Contains-permutation (ranks_among 128 entries) ranks (rank_in entries k) are.all (all_contained 128 k entries below is));
 }
 
 -- two places, of which the second is before the first only where a number is at most another
@@ -94,15 +105,19 @@ not_later p q a b less later =
     ]
 
 -- a candidate before the one at this place stands before it
-pub place_before : (entries ranks : List ℕ) (o : Ordered entries ranks) (place k : ℕ) → place < length ranks → (below : k < 128) (is : is_candidate entries k ≡ true)
+pub place_before : (entries ranks : List ℕ) (o : Ordered entries ranks) (place k : ℕ) → place < length ranks
+    → (below : k < 128) (is : is_candidate entries k ≡ true)
     → rank_in entries k < get_or ranks place 0 → (o.places k below is).place < place
 place_before entries ranks o place k inside below is earlier =
     let has = o.places k below is in
-    not_later has.place place (get_or ranks place 0) (rank_in entries k) earlier (λ later. subst (λ (r : ℕ). get_or ranks place 0 ≤ r) has.is (o.order place has.place later has.inside))
+    not_later has.place place (get_or ranks place 0) (rank_in entries k) earlier
+    (λ later. subst (λ (r : ℕ). get_or ranks place 0 ≤ r) has.is (o.order place has.place later has.inside))
 
 -- and one behind it stands behind it
-pub place_behind : (entries ranks : List ℕ) (o : Ordered entries ranks) (place k : ℕ) → place < length ranks → (below : k < 128) (is : is_candidate entries k ≡ true)
+pub place_behind : (entries ranks : List ℕ) (o : Ordered entries ranks) (place k : ℕ) → place < length ranks
+    → (below : k < 128) (is : is_candidate entries k ≡ true)
     → get_or ranks place 0 < rank_in entries k → place < (o.places k below is).place
 place_behind entries ranks o place k inside below is later =
     let has = o.places k below is in
-    not_later place has.place (rank_in entries k) (get_or ranks place 0) later (λ earlier. subst (λ (r : ℕ). r ≤ get_or ranks place 0) has.is (o.order has.place place earlier inside))
+    not_later place has.place (rank_in entries k) (get_or ranks place 0) later
+    (λ earlier. subst (λ (r : ℕ). r ≤ get_or ranks place 0) has.is (o.order has.place place earlier inside))

@@ -1,5 +1,6 @@
 -- The exits of a walk.
-use Rattle.std.proofs.Common.{◌≡◌, ℕ, ◌+◌, ◌-◌, ◌*◌, ◌<◌, ◌≤◌, inl, inr, Bool, true, false, Option, Some, None, List, length, take, drop, sum_by, Ok, Err, Result, refl, ap, sym, subst, ◌∙◌, arith, take_all, get_or-drop, length-drop}
+use Rattle.std.proofs.Common.{◌≡◌, ℕ, ◌+◌, ◌-◌, ◌*◌, ◌<◌, ◌≤◌, inl, inr, Bool, true, false, Option, Some, None, List, length, take, drop}
+use Rattle.std.proofs.Common.{sum_by, Ok, Err, Result, refl, ap, sym, subst, ◌∙◌, arith, take_all, get_or-drop, length-drop}
 use Rattle.std.specs.Prelude.{IsTrue}
 use Rattle.board_core.specs.Disk.{DiskState}
 use Rattle.board_core.specs.Hook.{HookState}
@@ -31,7 +32,8 @@ use Rattle.walk_core.proofs.WalkChosen.{none_chosen, is_chosen, is_lowest, fates
 
 -- ---- what is known of the later ones, by what the drive told before
 
-knows_same : (d : WalkQuestion) (entries ranks : List ℕ) (version count : ℕ) (later : Later) (disk' : DiskState) (hook' : HookState) → SameContent d disk' hook'
+knows_same : (d : WalkQuestion) (entries ranks : List ℕ) (version count : ℕ) (later : Later) (disk' : DiskState) (hook' : HookState)
+    → SameContent d disk' hook'
     → Knows (drive_now d disk' hook') entries ranks version count later → Knows d entries ranks version count later
 knows_same d entries ranks version count later disk' hook' same knows =
     let good : (k : ℕ) → head_is_good (drive_now d disk' hook') entries k ≡ head_is_good d entries k =
@@ -42,7 +44,8 @@ knows_same d entries ranks version count later disk' hook' same knows =
       sound = λ k marked. sym (good k) ∙ knows.sound k marked;
       complete = λ place inside bad. knows.complete place inside (good (entry_in_order ranks place) ∙ bad);
       given = knows.given;
-      least = λ place inside fine. subst (λ (n : ℕ). later.lowest ≤ n) (versions (entry_in_order ranks place)) (knows.least place inside (good (entry_in_order ranks place) ∙ fine));
+      least = λ place inside fine. subst (λ (n : ℕ). later.lowest ≤ n) (versions (entry_in_order ranks place))
+          (knows.least place inside (good (entry_in_order ranks place) ∙ fine));
       one = elim knows.one [
         | inl given ↦ inl given
         | inr has ↦ inr (record {
@@ -61,15 +64,18 @@ rest_is xs n =
     take_all (length xs - n) (drop n xs) (omega (arith, long))
 
 -- each of those behind a place is the rank of a candidate
-pub behind_candidates : (entries ranks : List ℕ) (n : ℕ) → AreInOrder entries ranks → (place : ℕ) → place < length (drop n ranks) → is_candidate entries (entry_in_order (drop n ranks) place) ≡ true
+pub behind_candidates : (entries ranks : List ℕ) (n : ℕ) → AreInOrder entries ranks → (place : ℕ) → place < length (drop n ranks)
+    → is_candidate entries (entry_in_order (drop n ranks) place) ≡ true
 behind_candidates entries ranks n are place within =
     let long = length-drop n ranks in
     let far : n + place < length ranks = omega (arith, within, long) in
-    ap (λ (r : ℕ). is_candidate entries (entry_at r)) (get_or-drop n ranks place 0) ∙ ((ordered entries ranks are).ranked (n + place) far).candidate
+    ap (λ (r : ℕ). is_candidate entries (entry_at r)) (get_or-drop n ranks place 0)
+    ∙ ((ordered entries ranks are).ranked (n + place) far).candidate
 
 -- ---- none is good
 
-pub none_walked : (d : WalkQuestion) (old new : RoomView) (ranks : List ℕ) (disk' : DiskState) (hook' : HookState) (body : List ℕ) (marks : List Bool) → AreInOrder old.table.entries ranks
+pub none_walked : (d : WalkQuestion) (old new : RoomView) (ranks : List ℕ) (disk' : DiskState) (hook' : HookState) (body : List ℕ)
+    (marks : List Bool) → AreInOrder old.table.entries ranks
     → FindsFirst d old.table.entries ranks disk' hook' body (Ok None)
     → new ≡ room_having old (with_each 128 (fate_by (mark_of marks) old.table.entries None) old.table.entries)
     → HasFates new.table.entries (fate_by (mark_of marks) old.table.entries None) → SameButAttributes old new
@@ -79,11 +85,14 @@ none_walked d old new ranks disk' hook' body marks are finds is each kept =
     record {
       looks = subst (λ (n : ℕ). LooksAtDisk n d.disk disk' false) (sum_most d entries ranks are) finds.looks;
       asked = finds.asked;
-      reads = λ told told'. subst (λ (n : ℕ). disk'.medium.sectors_read ≤ d.disk.medium.sectors_read + n) (sum_exact d entries ranks are) (finds.reads told told');
-      chosen = λ told told' j below. none_chosen d entries ranks (ordered entries ranks are) (finds.bad told told') j below (is_candidate entries j) refl;
+      reads = λ told told'. subst (λ (n : ℕ). disk'.medium.sectors_read ≤ d.disk.medium.sectors_read + n) (sum_exact d entries ranks are)
+          (finds.reads told told');
+      chosen = λ told told' j below. none_chosen d entries ranks (ordered entries ranks are) (finds.bad told told') j below
+          (is_candidate entries j) refl;
       kernel = tt;
       lowest = λ told told'. refl;
-      fates = λ told told'. is ∙ ap (λ (e : List ℕ). room_having old e) (with_each-same 128 (fate_by (mark_of marks) entries None) (fate d entries None) entries (λ k below. refl));
+      fates = λ told told'. is ∙ ap (λ (e : List ℕ). room_having old e)
+          (with_each-same 128 (fate_by (mark_of marks) entries None) (fate d entries None) entries (λ k below. refl));
       each = λ told told'. each_same new.table.entries (fate_by (mark_of marks) entries None) (fate d entries None) (λ k below. refl) each;
       kept = kept;
       failed = tt;
@@ -91,14 +100,17 @@ none_walked d old new ranks disk' hook' body marks are finds is each kept =
 
 -- ---- failures
 
-pub first_walk_failed : (d : WalkQuestion) (old : RoomView) (ranks : List ℕ) (disk' : DiskState) (hook' : HookState) (body : List ℕ) (failure : Failure) → AreInOrder old.table.entries ranks
+pub first_walk_failed : (d : WalkQuestion) (old : RoomView) (ranks : List ℕ) (disk' : DiskState) (hook' : HookState) (body : List ℕ)
+    (failure : Failure) → AreInOrder old.table.entries ranks
     → FindsFirst d old.table.entries ranks disk' hook' body (Err failure) → Walks d old old disk' hook' body (Err failure)
 first_walk_failed d old ranks disk' hook' body failure are finds =
     let entries = old.table.entries in
     record {
-      looks = subst (λ (n : ℕ). LooksAtDisk n d.disk disk' (store_failed {T = Option Taken} (Err failure))) (sum_most d entries ranks are) finds.looks;
+      looks = subst (λ (n : ℕ). LooksAtDisk n d.disk disk' (store_failed {T = Option Taken} (Err failure)))
+          (sum_most d entries ranks are) finds.looks;
       asked = finds.asked;
-      reads = λ told told'. subst (λ (n : ℕ). disk'.medium.sectors_read ≤ d.disk.medium.sectors_read + n) (sum_exact d entries ranks are) (finds.reads told told');
+      reads = λ told told'. subst (λ (n : ℕ). disk'.medium.sectors_read ≤ d.disk.medium.sectors_read + n) (sum_exact d entries ranks are)
+          (finds.reads told told');
       chosen = λ told told'. tt;
       kernel = tt;
       lowest = λ told told'. tt;
@@ -109,15 +121,18 @@ first_walk_failed d old ranks disk' hook' body failure are finds =
     }
 
 -- what both steps read
-pub record BothLook (d : WalkQuestion) (entries : List ℕ) (disk'' : DiskState) (hook'' : HookState) (result : Result Later Failure) : Type 0 where
+pub record BothLook (d : WalkQuestion) (entries : List ℕ) (disk'' : DiskState) (hook'' : HookState)
+    (result : Result Later Failure) : Type 0 where
   pub looks : LooksAtDisk (sum_below 128 (most_sectors_for d entries)) d.disk disk'' (store_failed result)
   pub asked : Asked d.hook hook'' (hook_failed result)
-  pub reads : IsTrue d.disk.medium.told → IsTrue d.hook.told → disk''.medium.sectors_read ≤ d.disk.medium.sectors_read + sum_below 128 (sectors_for d entries)
+  pub reads : IsTrue d.disk.medium.told → IsTrue d.hook.told
+      → disk''.medium.sectors_read ≤ d.disk.medium.sectors_read + sum_below 128 (sectors_for d entries)
 
 sums : (a b c m n s : ℕ) → b ≤ a + m → c ≤ b + n → m + n ≤ s → c ≤ a + s
 sums a b c m n s one two e = omega (arith, one, two, e)
 
-both_look : (d : WalkQuestion) (entries ranks : List ℕ) (disk' disk'' : DiskState) (hook' hook'' : HookState) (body : List ℕ) (taken : Taken) (version : ℕ) (result : Result Later Failure) → AreInOrder entries ranks
+both_look : (d : WalkQuestion) (entries ranks : List ℕ) (disk' disk'' : DiskState) (hook' hook'' : HookState) (body : List ℕ)
+    (taken : Taken) (version : ℕ) (result : Result Later Failure) → AreInOrder entries ranks
     → FindsFirst d entries ranks disk' hook' body (Ok (Some taken))
     → LooksLater (drive_now d disk' hook') entries (drop (taken.place + 1) ranks) version disk'' hook'' result
     → BothLook d entries disk'' hook'' result
@@ -133,11 +148,14 @@ both_look d entries ranks disk' disk'' hook' hook'' body taken version result ar
           (looks_then most heads d.disk disk' disk'' (store_failed result) finds.looks later.looks));
       asked = asked_then d.hook hook' hook'' (hook_failed result) finds.asked later.asked;
       reads = λ told told'. subst (λ (n : ℕ). disk''.medium.sectors_read ≤ d.disk.medium.sectors_read + n) (sum_exact d entries ranks are)
-          (sums d.disk.medium.sectors_read disk'.medium.sectors_read disk''.medium.sectors_read exact heads (sum_by (sectors_of_rank d entries) ranks)
-          (finds.reads told told') (later.looks.no_more (same.told ∙ told)) (then_heads (sectors_of_rank d entries) ranks (taken.place + 1) (exact_least d entries)));
+          (sums d.disk.medium.sectors_read disk'.medium.sectors_read disk''.medium.sectors_read exact heads
+          (sum_by (sectors_of_rank d entries) ranks)
+          (finds.reads told told') (later.looks.no_more (same.told ∙ told))
+          (then_heads (sectors_of_rank d entries) ranks (taken.place + 1) (exact_least d entries)));
     }
 
-pub later_walk_failed : (d : WalkQuestion) (old : RoomView) (ranks : List ℕ) (disk' disk'' : DiskState) (hook' hook'' : HookState) (body : List ℕ) (taken : Taken) (version : ℕ) (failure : Failure) → AreInOrder old.table.entries ranks
+pub later_walk_failed : (d : WalkQuestion) (old : RoomView) (ranks : List ℕ) (disk' disk'' : DiskState) (hook' hook'' : HookState)
+    (body : List ℕ) (taken : Taken) (version : ℕ) (failure : Failure) → AreInOrder old.table.entries ranks
     → FindsFirst d old.table.entries ranks disk' hook' body (Ok (Some taken))
     → LooksLater (drive_now d disk' hook') old.table.entries (drop (taken.place + 1) ranks) version disk'' hook'' (Err failure)
     → Walks d old old disk'' hook'' body (Err failure)
@@ -166,12 +184,19 @@ kernel_found : (d : WalkQuestion) (entries : List ℕ) (k : ℕ) (body : List �
 kernel_found d entries k body head below candidate found =
     record { at = record { inside = below; head = head; is = refl; found = found }; candidate = candidate }
 
-pub one_walked : (d : WalkQuestion) (old new : RoomView) (ranks : List ℕ) (disk' disk'' : DiskState) (hook' hook'' : HookState) (body : List ℕ) (taken : Taken) (later : Later) → AreInOrder old.table.entries ranks
+pub one_walked : (d : WalkQuestion) (old new : RoomView) (ranks : List ℕ) (disk' disk'' : DiskState) (hook' hook'' : HookState)
+    (body : List ℕ) (taken : Taken) (later : Later) → AreInOrder old.table.entries ranks
     → FindsFirst d old.table.entries ranks disk' hook' body (Ok (Some taken))
     → LooksLater (drive_now d disk' hook') old.table.entries (drop (taken.place + 1) ranks) taken.head.version disk'' hook'' (Ok later)
-    → new ≡ room_having old (with_each 128 (fate_by (mark_of later.bad) old.table.entries (Some (entry_in_order ranks taken.place))) old.table.entries)
-    → HasFates new.table.entries (fate_by (mark_of later.bad) old.table.entries (Some (entry_in_order ranks taken.place))) → SameButAttributes old new
-    → Walks d old new disk'' hook'' body (Ok (record { chosen = Some (kernel_for (entry_in_order ranks taken.place) taken.head); lowest = later.lowest }))
+    → new ≡ room_having old (with_each 128 (fate_by (mark_of later.bad) old.table.entries
+    (Some (entry_in_order ranks taken.place))) old.table.entries)
+    → HasFates new.table.entries (fate_by (mark_of later.bad) old.table.entries (Some (entry_in_order ranks taken.place)))
+    → SameButAttributes old new
+    → Walks d old new disk'' hook'' body (Ok (record {
+      chosen = Some
+          (kernel_for (entry_in_order ranks taken.place) taken.head);
+      lowest = later.lowest;
+    }))
 one_walked d old new ranks disk' disk'' hook' hook'' body taken later are finds looks is each kept =
     let entries = old.table.entries in
     let o = ordered entries ranks are in
@@ -179,26 +204,37 @@ one_walked d old new ranks disk' disk'' hook' hook'' body taken later are finds 
     let inside = finds.taken.inside in
     let here = o.ranked taken.place inside in
     let both = both_look d entries ranks disk' disk'' hook' hook'' body taken taken.head.version (Ok later) are finds looks in
-    let same = same_content (sum_by (most_sectors_of_rank d entries) (take (taken.place + 1) ranks)) d disk' hook' finds.looks finds.asked in
-    let version : IsTrue d.disk.medium.told → taken.head.version ≡ (head_of d entries k).version = λ told. ap (λ (h : HeadOk). h.version) (finds.taken.found.ok told) in
+    let same = same_content (sum_by (most_sectors_of_rank d entries)
+    (take (taken.place + 1) ranks)) d disk' hook' finds.looks finds.asked in
+    let version : IsTrue d.disk.medium.told → taken.head.version ≡ (head_of d entries k).version = λ told. ap (λ (h : HeadOk). h.version)
+    (finds.taken.found.ok told) in
     let behind = drop (taken.place + 1) ranks in
-    let counted : IsTrue d.disk.medium.told → IsTrue d.hook.told → later_count_by d.rules taken.head.version ≡ true → Knows d entries behind taken.head.version (length behind) later =
-    λ told told' it. knows_same d entries behind taken.head.version (length behind) later disk' hook' same (looks.counted (same.told ∙ told) (same.hook_told ∙ told') it) in
+    let counted : IsTrue d.disk.medium.told → IsTrue d.hook.told → later_count_by d.rules taken.head.version ≡ true
+    → Knows d entries behind taken.head.version (length behind) later =
+    λ told told' it. knows_same d entries behind taken.head.version (length behind) later disk' hook' same
+    (looks.counted (same.told ∙ told) (same.hook_told ∙ told') it) in
     let stored : later_count_by d.rules taken.head.version ≡ false → later ≡ none_later d.rules.stored = λ it. looks.stored it in
-    let alike : IsTrue d.disk.medium.told → IsTrue d.hook.told → (j : ℕ) → j < 128 → fate_by (mark_of later.bad) entries (Some k) j ≡ fate d entries (Some (k + 1 - 1)) j =
-    λ told told' j below. fates_are d entries ranks o taken.place later inside taken.head.version (version told) (counted told told') stored j below
+    let alike : IsTrue d.disk.medium.told → IsTrue d.hook.told → (j : ℕ) → j < 128
+    → fate_by (mark_of later.bad) entries (Some k) j ≡ fate d entries (Some (k + 1 - 1)) j =
+    λ told told' j below. fates_are d entries ranks o taken.place later inside taken.head.version (version told)
+    (counted told told') stored j below
     ∙ ap (λ (i : ℕ). fate d entries (Some i) j) (sym (back k)) in
     record {
       looks = both.looks;
       asked = both.asked;
       reads = both.reads;
-      chosen = λ told told'. subst (λ (j : ℕ). Chosen d entries (Some j)) (sym (back k)) (is_chosen d entries ranks o taken.place inside (finds.bad told told') (finds.taken.good told told'));
-      kernel = subst (λ (j : ℕ). IsKernelOf d entries j (kernel_for k taken.head) body) (sym (back k)) (kernel_found d entries k body taken.head here.below here.candidate finds.taken.found);
+      chosen = λ told told'. subst (λ (j : ℕ). Chosen d entries (Some j)) (sym (back k))
+          (is_chosen d entries ranks o taken.place inside (finds.bad told told') (finds.taken.good told told'));
+      kernel = subst (λ (j : ℕ). IsKernelOf d entries j (kernel_for k taken.head) body) (sym (back k))
+          (kernel_found d entries k body taken.head here.below here.candidate finds.taken.found);
       lowest = λ told told'. subst (λ (j : ℕ). IsLowest d entries (Some j) later.lowest) (sym (back k))
-          (is_lowest d entries ranks o taken.place later inside (finds.taken.good told told') taken.head.version (version told) (counted told told') stored);
+          (is_lowest d entries ranks o taken.place later inside (finds.taken.good told told') taken.head.version (version told)
+          (counted told told') stored);
       fates = λ told told'. is ∙ ap (λ (e : List ℕ). room_having old e)
-          (with_each-same 128 (fate_by (mark_of later.bad) entries (Some k)) (fate d entries (Some (k + 1 - 1))) entries (alike told told'));
-      each = λ told told'. each_same new.table.entries (fate_by (mark_of later.bad) entries (Some k)) (fate d entries (Some (k + 1 - 1))) (alike told told') each;
+          (with_each-same 128 (fate_by (mark_of later.bad) entries (Some k)) (fate d entries (Some (k + 1 - 1))) entries
+          (alike told told'));
+      each = λ told told'. each_same new.table.entries (fate_by (mark_of later.bad) entries (Some k)) (fate d entries (Some (k + 1 - 1)))
+          (alike told told') each;
       kept = kept;
       failed = tt;
     }

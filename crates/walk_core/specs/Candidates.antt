@@ -1,6 +1,7 @@
 -- Which entries of a table are candidates, and which is earlier than which. Entry k here is the one of index k + 1.
 -- Source: `GptNextKernelEntry` of vboot_reference (firmware/lib/cgptlib/cgptlib.c).
-use Rattle.std.specs.Prelude.{◌≡◌, ◌<◌, ◌⊎◌, ℕ, zero, suc, ◌+◌, ◌-◌, ◌*◌, Bool, ◌&&◌, ◌||◌, nat_eq, nat_le, List, [], ◌∷◌, ◌++◌, if◌then◌else◌}
+use Rattle.std.specs.Prelude.{◌≡◌, ◌<◌, ◌⊎◌, ℕ, zero, suc, ◌+◌, ◌-◌, ◌*◌, Bool, ◌&&◌, ◌||◌, nat_eq, nat_le, List, [], ◌∷◌, ◌++◌}
+use Rattle.std.specs.Prelude.{if◌then◌else◌}
 use Rattle.std.specs.List.Sorted.{IsPermutation, IsNonDecreasing}
 use Rattle.std.specs.Cmp.Lexicographic.{pointwise}
 use Rattle.gpt_core.specs.Entries.{kind_in, attributes_in}

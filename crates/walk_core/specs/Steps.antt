@@ -1,6 +1,7 @@
 -- The steps of a walk: the candidates in turn up to the first good one, then the heads of the later ones, then the marks.
 -- Each candidate is named by its rank.
-use Rattle.std.specs.Prelude.{◌≡◌, ℕ, ◌+◌, ◌*◌, ◌%◌, ◌<◌, ◌≤◌, ◌⊎◌, Bool, true, false, ◌&&◌, ◌||◌, nat_eq, nat_lt, min, IsTrue, List, length, get_or, set, take, replicate, sum_by}
+use Rattle.std.specs.Prelude.{◌≡◌, ℕ, ◌+◌, ◌*◌, ◌%◌, ◌<◌, ◌≤◌, ◌⊎◌, Bool, true, false, ◌&&◌, ◌||◌, nat_eq, nat_lt, min, IsTrue, List}
+use Rattle.std.specs.Prelude.{length, get_or, set, take, replicate, sum_by}
 use Rattle.std.specs.Prelude.{Option, Some, None, IfSome, Result, Ok, Err, IfOk, if◌then◌else◌}
 use Rattle.board_core.specs.Disk.{DiskState}
 use Rattle.board_core.specs.Hook.{HookState}

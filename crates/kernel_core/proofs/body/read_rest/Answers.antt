@@ -30,7 +30,8 @@ loop-done-preserved g c =
     record {
       within = omega (arith, c.min-count.ensures, c.loop-done-test.true);
       aligned = λ after. aligned_then done c.args.len count c.min-count.ensures c.loop-done-test.true aligned after;
-      looks = subst (λ (n : ℕ). LooksAtDisk n disk disk'' false) (sectors_then done count aligned) (looks_then ((done + 511) / 512) ((count + 511) / 512) disk disk' disk'' false before.looks piece.looks);
+      looks = subst (λ (n : ℕ). LooksAtDisk n disk disk'' false) (sectors_then done count aligned)
+          (looks_then ((done + 511) / 512) ((count + 511) / 512) disk disk' disk'' false before.looks piece.looks);
       taken = piece_then (c.args.lba * 512) done count _ disk disk' c.args.hasher.now c.loop-done.hasher c.take_piece.new.hasher c.args.body.now.items c.loop-done.body.items c.take_piece.new.body.items _ before.looks (ap (λ (n : ℕ). (c.args.lba + n) * 512) c.from.ensures ∙ place_is c.args.lba done aligned) before.taken piece.ok;
       piece = search rules;
       count = omega (arith, c.in_ok-take_piece.ensures.longer, before.count);

@@ -23,7 +23,8 @@ returns g c =
     let vblock = c.args.vblock.now in
     let packed = c.pack-key.result in
     let key : c.view.result ≡ head_key vblock = c.view.ensures.value ∙ ap (key_in vblock) c.key_at.ensures in
-    let copied : Copied (head_key vblock) packed = subst (λ (k : Key). Copied k packed) key (record { algorithm = c.pack-key.ensures.algorithm; version = c.pack-key.ensures.version; size = c.pack-key.ensures.size; bytes = c.pack-key.ensures.bytes; front = c.pack-key.ensures.front }) in
+    let copied : Copied (head_key vblock) packed = subst (λ (k : Key). Copied k packed) key
+    (record { algorithm = c.pack-key.ensures.algorithm; version = c.pack-key.ensures.version; size = c.pack-key.ensures.size; bytes = c.pack-key.ensures.bytes; front = c.pack-key.ensures.front }) in
     let rest : c.behind-rest.result.now ≡ behind_keyblock vblock = c.behind-rest.ensures ∙ ap (λ (n : ℕ). drop n vblock) c.u32_at.ensures in
     let whole : c.body_signature.result.now ≡ c.in-Ok.preamble.common.body_signature =
     c.body_signature.ensures ∙ ap (λ (p : CommonPreamble). p.body_signature) c.common-common.ensures in
@@ -34,6 +35,8 @@ returns g c =
           ∙ ap (λ (xs : List ℕ). (body_signature_of kinds.Kernel xs).size) rest;
     } in
     record {
-      meets = body_of_head vblock c.args.head.now packed c.body_signature.result.now c.args.partition.first c.args.partition.sectors (g.D.Disk.state c.args.disk.now) (g.D.Disk.state c.check_body.new.disk) (g.H.Hook.state c.args.hook.now) (g.H.Hook.state c.check_body.new.hook)
+      meets = body_of_head vblock c.args.head.now packed c.body_signature.result.now c.args.partition.first c.args.partition.sectors
+          (g.D.Disk.state c.args.disk.now) (g.D.Disk.state c.check_body.new.disk) (g.H.Hook.state c.args.hook.now)
+          (g.H.Hook.state c.check_body.new.hook)
           c.check_body.new.room c.check_body.result c.requires.head c.requires.vblock c.requires.sectors taken c.check_body.ensures.meets;
     }

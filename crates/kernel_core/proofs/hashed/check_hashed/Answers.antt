@@ -1,6 +1,7 @@
 -- At each exit the lines before it do not hold, and the one that it names does.
 use Rattle.std.proofs.Common.{Some, None, false}
-use Rattle.kernel_core.proofs.KeyblockTables.{HashViewed, hashed_view_fault, hashed_seal_fault, hashed_key_fault, no_hashed_fault, hash_read, key_read}
+use Rattle.kernel_core.proofs.KeyblockTables.{HashViewed, hashed_view_fault, hashed_seal_fault, hashed_key_fault, no_hashed_fault}
+use Rattle.kernel_core.proofs.KeyblockTables.{hash_read, key_read}
 use Rattle.kernel_core.proofs.hashed.check_hashed.Goals as goal
 
 pub returns-in-Err-clause-fault : goal.returns-in-Err-clause-fault
@@ -10,7 +11,8 @@ pub returns-in-Some-clause-fault : goal.returns-in-Some-clause-fault
 returns-in-Some-clause-fault c =
     let keyblock = c.in-Ok.keyblock in
     let viewed : HashViewed c.args.bytes.now keyblock = record { none = c.in-Ok.ensures.none; parts = c.in-Ok.ensures.parts; seal_size = c.in-Ok.ensures.fits.seal_length; key_size = c.in-Ok.ensures.fits.key_length } in
-    hashed_seal_fault c.args.bytes.now keyblock c.in-Some.fault viewed (hash_read keyblock _ _ _ (Some c.in-Some.fault) c.seal_bytes.ensures c.signed.ensures c.hash_fault.ensures c.in-Some.is)
+    hashed_seal_fault c.args.bytes.now keyblock c.in-Some.fault viewed
+    (hash_read keyblock _ _ _ (Some c.in-Some.fault) c.seal_bytes.ensures c.signed.ensures c.hash_fault.ensures c.in-Some.is)
 
 pub returns-in-Some-data_key_fault-clause-fault : goal.returns-in-Some-data_key_fault-clause-fault
 returns-in-Some-data_key_fault-clause-fault c =

@@ -38,7 +38,8 @@ loop-k-preserved c =
           }
       | else-is_candidate w ↦ record {
         few = search rules;
-        are = ap (λ (v : ArrayVec ℕ). v.items) w.ranks-is ∙ c.loop-k.invariant.are ∙ sym (ranks_among-without k entries (sym answer ∙ w.if-is_candidate.false));
+        are = ap (λ (v : ArrayVec ℕ). v.items) w.ranks-is ∙ c.loop-k.invariant.are
+            ∙ sym (ranks_among-without k entries (sym answer ∙ w.if-is_candidate.false));
       }
     ]
 

@@ -10,6 +10,7 @@ returns c =
     let ranks = c.candidates_as_they_stand-ranks.result in
     let whole = items-with_items ranks c.sort_unstable.new.self (search rules) in
     record {
-      all = rw whole (subst (λ (xs : List ℕ). IsPermutation xs c.sort_unstable.new.self) (c.deref_mut.ensures.value ∙ c.candidates_as_they_stand-ranks.ensures) c.sort_unstable.ensures.permutation);
+      all = rw whole (subst (λ (xs : List ℕ). IsPermutation xs c.sort_unstable.new.self)
+          (c.deref_mut.ensures.value ∙ c.candidates_as_they_stand-ranks.ensures) c.sort_unstable.ensures.permutation);
       ordered = rw whole (IsNonDecreasingBy-from_sort (λ rank. rank) _ c.sort_unstable.ensures.sorted);
     }

@@ -13,18 +13,24 @@ pub returns-in-Ok-Ok : goal.returns-in-Ok-Ok
 returns-in-Ok-Ok g c =
     let d = walk_question (g.D.Disk.state c.args.disk.now) (g.H.Hook.state c.args.hook.now) c.args.request.now in
     let disk' = g.D.Disk.state c.read_head.new.disk in
-    let read = head_read d c.args.partition.first disk' c.read_head.new.vblock c.read_head.result (sym c.is_err.ensures.value ∙ c.if-is_err.false) c.read_head.ensures.looks c.read_head.ensures.filled in
+    let read = head_read d c.args.partition.first disk' c.read_head.new.vblock c.read_head.result
+    (sym c.is_err.ensures.value ∙ c.if-is_err.false) c.read_head.ensures.looks c.read_head.ensures.filled in
     record {
-      meets = good_head d c.args.partition.first c.args.partition.sectors disk' (g.H.Hook.state c.verify_head.new.hook) c.read_head.new.vblock c.in-Ok-Ok.head c.verify_head.result
-          (omega (arith, c.if-partition-lt-HEAD_SECTORS.false)) read c.verify_head.ensures.meets (c.in-Ok-Ok.is ∙ ap Ok c.in-Ok-Ok.field-0-is);
+      meets = good_head d c.args.partition.first c.args.partition.sectors disk'
+          (g.H.Hook.state c.verify_head.new.hook) c.read_head.new.vblock c.in-Ok-Ok.head c.verify_head.result
+          (omega (arith, c.if-partition-lt-HEAD_SECTORS.false)) read c.verify_head.ensures.meets
+          (c.in-Ok-Ok.is ∙ ap Ok c.in-Ok-Ok.field-0-is);
     }
 
 pub returns-in-Ok-Err : goal.returns-in-Ok-Err
 returns-in-Ok-Err g c =
     let d = walk_question (g.D.Disk.state c.args.disk.now) (g.H.Hook.state c.args.hook.now) c.args.request.now in
     let disk' = g.D.Disk.state c.read_head.new.disk in
-    let read = head_read d c.args.partition.first disk' c.read_head.new.vblock c.read_head.result (sym c.is_err.ensures.value ∙ c.if-is_err.false) c.read_head.ensures.looks c.read_head.ensures.filled in
+    let read = head_read d c.args.partition.first disk' c.read_head.new.vblock c.read_head.result
+    (sym c.is_err.ensures.value ∙ c.if-is_err.false) c.read_head.ensures.looks c.read_head.ensures.filled in
     record {
-      meets = bad_head d c.args.partition.first c.args.partition.sectors disk' (g.H.Hook.state c.verify_head.new.hook) c.read_head.new.vblock c.in-Ok-Err.field-0-0 c.verify_head.result
-          (omega (arith, c.if-partition-lt-HEAD_SECTORS.false)) read c.verify_head.ensures.meets (c.in-Ok-Err.is ∙ ap Ok c.in-Ok-Err.field-0-is);
+      meets = bad_head d c.args.partition.first c.args.partition.sectors disk'
+          (g.H.Hook.state c.verify_head.new.hook) c.read_head.new.vblock c.in-Ok-Err.field-0-0 c.verify_head.result
+          (omega (arith, c.if-partition-lt-HEAD_SECTORS.false)) read c.verify_head.ensures.meets
+          (c.in-Ok-Err.is ∙ ap Ok c.in-Ok-Err.field-0-is);
     }

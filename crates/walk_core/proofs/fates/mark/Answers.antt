@@ -10,7 +10,8 @@ pub loop-k-init : goal.loop-k-init
 loop-k-init c =
     let entries = c.args.gpt.now.table.entries in
     record {
-      is = ap (λ (e : List ℕ). room_having c.args.gpt.now e) (sym (with_each-none (fate_by (mark_of c.args.bad.now) entries (chosen_at c.args.chosen)) entries));
+      is = ap (λ (e : List ℕ). room_having c.args.gpt.now e)
+          (sym (with_each-none (fate_by (mark_of c.args.bad.now) entries (chosen_at c.args.chosen)) entries));
       each = fates-none entries (fate_by (mark_of c.args.bad.now) entries (chosen_at c.args.chosen));
     }
 
@@ -25,7 +26,8 @@ loop-k-preserved c =
     record {
       is = marked_more c.args.gpt.now c.loop-k.gpt c.set_attributes.new.self c.args.bad.now c.args.chosen k c.fate-attributes.result below
           fated c.loop-k.invariant.is c.set_attributes.ensures;
-      each = each_more c.args.gpt.now c.loop-k.gpt c.set_attributes.new.self (fate_by (mark_of c.args.bad.now) entries (chosen_at c.args.chosen)) k c.fate-attributes.result
+      each = each_more c.args.gpt.now c.loop-k.gpt c.set_attributes.new.self
+          (fate_by (mark_of c.args.bad.now) entries (chosen_at c.args.chosen)) k c.fate-attributes.result
           c.requires.valid.entries below fated small c.set_attributes.ensures c.loop-k.invariant.each;
     }
 
@@ -38,6 +40,7 @@ returns c =
       meets = record {
         marked = c.loop-k.invariant.is ∙ ap (λ (n : ℕ). room_having c.args.gpt.now (with_each n fates entries)) end;
         each = each_all c.loop-k.k entries c.loop-k.gpt.table.entries fates end c.loop-k.invariant.each;
-        kept = kept_all c.loop-k.k c.args.gpt.now c.loop-k.gpt (with_each c.loop-k.k fates entries) fates c.loop-k.invariant.is c.loop-k.invariant.each;
+        kept = kept_all c.loop-k.k c.args.gpt.now c.loop-k.gpt
+            (with_each c.loop-k.k fates entries) fates c.loop-k.invariant.is c.loop-k.invariant.each;
       };
     }

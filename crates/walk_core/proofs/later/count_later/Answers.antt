@@ -13,14 +13,16 @@ loop-place-init g c =
 pub loop-place-preserved : goal.loop-place-preserved
 loop-place-preserved g c =
     let known = c.loop-place.invariant.known in
-    let after = head_after_call _ _ _ _ _ _ _ _ _ _ _ (Ok c.in-Ok.head) c.examine_head.result known.looks known.asked c.examine_head.ensures.meets c.partition_of-partition.ensures.first
+    let after = head_after_call _ _ _ _ _ _ _ _ _ _ _
+    (Ok c.in-Ok.head) c.examine_head.result known.looks known.asked c.examine_head.ensures.meets c.partition_of-partition.ensures.first
     c.partition_of-partition.ensures.sectors c.in-Ok.is in
     record { known = known_more _ _ _ _ c.loop-place.place _ _ _ _ _ _ c.in-Ok.head known after c.note.ensures }
 
 pub returns-in-Err : goal.returns-in-Err
 returns-in-Err g c =
     let known = c.loop-place.invariant.known in
-    let after = head_after_call _ _ _ _ _ _ _ _ _ _ _ (Err c.in-Err.failure) c.examine_head.result known.looks known.asked c.examine_head.ensures.meets c.partition_of-partition.ensures.first
+    let after = head_after_call _ _ _ _ _ _ _ _ _ _ _
+    (Err c.in-Err.failure) c.examine_head.result known.looks known.asked c.examine_head.ensures.meets c.partition_of-partition.ensures.first
     c.partition_of-partition.ensures.sectors c.in-Err.is in
     record { meets = later_failed _ _ _ _ c.loop-place.place _ _ _ _ c.in-Err.failure c.loop-place-test.true after }
 

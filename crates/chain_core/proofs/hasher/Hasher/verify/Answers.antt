@@ -9,10 +9,12 @@ pub returns-in-Sha256-clause-meets : goal.returns-in-Sha256-clause-meets
 returns-in-Sha256-clause-meets g c =
     λ message held.
     let holds = subst (λ (h : Hasher). HoldsMessage c.args.key.now.algorithm h message) c.in-Sha256.is held in
-    asks_for c.args.key.now _ message _ _ _ _ _ c.key_bytes-bytes.ensures.value (c.finalize.ensures message holds.1 ∙ digest_256 _ message holds.0) c.verify.ensures.meets
+    asks_for c.args.key.now _ message _ _ _ _ _ c.key_bytes-bytes.ensures.value
+    (c.finalize.ensures message holds.1 ∙ digest_256 _ message holds.0) c.verify.ensures.meets
 
 pub returns-in-Sha512-clause-meets : goal.returns-in-Sha512-clause-meets
 returns-in-Sha512-clause-meets g c =
     λ message held.
     let holds = subst (λ (h : Hasher). HoldsMessage c.args.key.now.algorithm h message) c.in-Sha512.is held in
-    asks_for c.args.key.now _ message _ _ _ _ _ c.key_bytes-bytes.ensures.value (c.finalize-in-Sha512.ensures message holds.1 ∙ digest_512 _ message holds.0) c.verify-in-Sha512.ensures.meets
+    asks_for c.args.key.now _ message _ _ _ _ _ c.key_bytes-bytes.ensures.value
+    (c.finalize-in-Sha512.ensures message holds.1 ∙ digest_512 _ message holds.0) c.verify-in-Sha512.ensures.meets

@@ -1,19 +1,21 @@
 -- Answers of the examination of a head.
 use Rattle.std.proofs.Common.{◌≡◌, ℕ, ◌*◌, ◌≤◌, ◌<◌, Bool, true, false, not, ◌&&◌, nat_le, Option, Some, None, List, Ok, Err, Result, refl}
-use Rattle.std.proofs.Common.{ap, sym, subst, ◌∙◌}
-use Rattle.std.specs.Prelude.{IsTrue, OnOk, is_err, is_some}
+use Rattle.std.proofs.Common.{ap, sym, subst, ◌∙◌, arith}
+use Rattle.std.specs.Prelude.{IsTrue, IsSome, OnOk, is_err, is_some}
 use Rattle.std.proofs.lemmas.Bool.{cond-true, cond-false, true≢false, le-leb, lt-leb}
 use Rattle.board_core.specs.Disk.{DiskState}
 use Rattle.board_core.specs.Flash.{range}
 use Rattle.board_core.specs.Hook.{HookState}
+use Rattle.chain_core.specs.declared.fault.Failure.TheVariants as failures
 use Rattle.chain_core.proofs.Said.{asked_none}
-use Rattle.kernel_core.specs.Heads.{HeadQuestion, head_fault, head_ok, HeadChain}
+use Rattle.kernel_core.specs.Heads.{HeadQuestion, asked_of_keyblock, head_fault, head_ok, HeadChain}
 use Rattle.kernel_core.specs.HeadChecks.{head_question, VerifiesHead}
 use Rattle.kernel_core.specs.KernelBodies.{LooksAtDisk}
+use Rattle.kernel_core.specs.KernelTables.{kernel_keyblock_front}
 use Rattle.kernel_core.specs.declared.head_fault.HeadFault.{HeadFault}
 use Rattle.kernel_core.specs.declared.head_fault.HeadOk.{HeadOk}
 use Rattle.kernel_core.proofs.DiskLooks.{looks_none}
-use Rattle.walk_core.specs.Kernels.{WalkQuestion, head_bytes, asked_of_head, has_good_head, head_in}
+use Rattle.walk_core.specs.Kernels.{WalkQuestion, head_bytes, asked_of_head, head_front, has_good_head, head_in}
 use Rattle.walk_core.specs.Examined.{ExaminesHead}
 
 -- ---- whether a head is good
@@ -76,11 +78,56 @@ head_read d first disk' vblock (Err x) e looks filled = absurd (true≢false e)
 
 -- ---- the exits
 
+-- where the bytes that were read have a fault before the hook is asked, those of the disk have
+unasked_told : (d : WalkQuestion) (first : ℕ) (vblock : List ℕ) (hook' : HookState) → vblock ≡ head_bytes d first
+    → (IsSome (kernel_keyblock_front (asked_of_keyblock (head_question vblock d.key d.rules d.hook))) → hook' ≡ d.hook)
+    → IsSome (head_front d first) → hook' ≡ d.hook
+unasked_told d first vblock hook' filled unasked =
+    subst (λ (bytes : List ℕ). IsSome (kernel_keyblock_front (asked_of_keyblock (head_question bytes d.key d.rules d.hook)))
+    → hook' ≡ d.hook)
+    filled unasked
+
+-- the disk failed
+pub unread_head : (d : WalkQuestion) (first sectors : ℕ) (disk' : DiskState) (vblock : List ℕ) → LooksAtDisk 128 d.disk disk' true
+    → ExaminesHead d first sectors disk' d.hook vblock (Err failures.Store)
+unread_head d first sectors disk' vblock looks = record {
+  looks = looks;
+  asked = asked_none d.hook;
+  short = λ less. refl;
+  unasked = λ told some. refl;
+  failed = λ told hook. absurd (true≢false (sym hook));
+  head = λ told told'. tt;
+  found = tt;
+}
+
+-- the hook failed
+pub unheard_head : {E : Type 0} (d : WalkQuestion) (first sectors : ℕ) (disk' : DiskState) (hook' : HookState) (vblock : List ℕ) (e : E)
+    → 128 ≤ sectors → HeadRead d first disk' vblock
+    → VerifiesHead {E = E} (head_question vblock d.key d.rules d.hook) d.hook hook' (Err e)
+    → ExaminesHead d first sectors disk' hook' vblock (Err failures.Hook)
+unheard_head d first sectors disk' hook' vblock e long read verifies = record {
+  looks = read.looks;
+  asked = verifies.asked;
+  short = λ less. absurd (omega arith);
+  unasked = λ told. unasked_told d first vblock hook' (read.filled told) verifies.behind.unasked;
+  failed = λ told hook. (
+    long,
+    subst (λ (bytes : List ℕ).
+        kernel_keyblock_front (asked_of_keyblock (head_question bytes d.key d.rules d.hook)) ≡ None)
+        (read.filled told) verifies.behind.failed,
+  );
+  head = λ told told'. tt;
+  found = tt;
+}
+
 pub short_head : (d : WalkQuestion) (first sectors : ℕ) (vblock : List ℕ) → sectors < 128
     → ExaminesHead d first sectors d.disk d.hook vblock (Ok None)
 short_head d first sectors vblock short = record {
   looks = looks_none 128 d.disk;
   asked = asked_none d.hook;
+  short = λ less. refl;
+  unasked = λ told some. refl;
+  failed = λ told. tt;
   head = λ told told'. sym (in-bad d first sectors (bad-short d first sectors short));
   found = tt;
 }
@@ -96,6 +143,9 @@ good_head d first sectors disk' hook' vblock head result long read verifies is =
     record {
       looks = read.looks;
       asked = meets.asked;
+      short = λ less. absurd (omega arith);
+      unasked = λ told. unasked_told d first vblock hook' (read.filled told) meets.behind.unasked;
+      failed = λ told. tt;
       head = λ told told'.
           ap Some (meets.ok ∙ ap (λ (bytes : List ℕ). head_ok (q bytes)) (read.filled told))
           ∙ sym (in-good d first sectors (good-none d first sectors long
@@ -122,6 +172,9 @@ bad_head d first sectors disk' hook' vblock fault result long read verifies is =
     record {
       looks = read.looks;
       asked = meets.asked;
+      short = λ less. absurd (omega arith);
+      unasked = λ told. unasked_told d first vblock hook' (read.filled told) meets.behind.unasked;
+      failed = λ told. tt;
       head = λ told told'. sym (in-bad d first sectors
           (bad-fault d first sectors fault long (subst (λ (bytes : List ℕ). head_fault (q bytes) ≡ Some fault) (read.filled told)
           (meets.fault told'))));

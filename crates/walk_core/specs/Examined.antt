@@ -1,14 +1,14 @@
 -- What the calls that examine the kernel of one partition do.
-use Rattle.std.specs.Prelude.{◌≡◌, ℕ, ◌+◌, ◌≤◌, true, false, IsTrue, List, length, Option, Result, IfOk, IfSome}
+use Rattle.std.specs.Prelude.{◌≡◌, ℕ, ◌+◌, ◌<◌, ◌≤◌, None, true, false, IsTrue, List, length, Option, Result, IfOk, IfErr, IfSome, IsSome}
 use Rattle.board_core.specs.Disk.{DiskState}
 use Rattle.board_core.specs.Hook.{HookState}
 use Rattle.chain_core.specs.Accepted.{Accepts, Asked}
-use Rattle.chain_core.specs.Bodies.{store_failed, hook_failed}
+use Rattle.chain_core.specs.Bodies.{is_hook, store_failed, hook_failed}
 use Rattle.chain_core.specs.declared.fault.Failure.{Failure}
 use Rattle.kernel_core.specs.Heads.{head_key, head_preamble, head_ok, IsHeadOf, HeadChain}
 use Rattle.kernel_core.specs.KernelBodies.{LooksAtDisk, read_sectors, kernel_body}
 use Rattle.kernel_core.specs.declared.head_fault.HeadOk.{HeadOk}
-use Rattle.walk_core.specs.Kernels.{WalkQuestion, head_bytes, asked_of_head, has_good_head, head_in, good_kernel_in}
+use Rattle.walk_core.specs.Kernels.{WalkQuestion, head_bytes, asked_of_head, head_front, has_good_head, head_in, good_kernel_in}
 
 -- A head that was found good.
 pub record FoundHead (d : WalkQuestion) (first sectors : ℕ) (vblock : List ℕ) (head : HeadOk) : Type 0 where
@@ -30,6 +30,12 @@ pub record ExaminesHead (d : WalkQuestion) (first sectors : ℕ) (disk' : DiskSt
   -- a disk or a hook that failed counted it once, and they hold what they held; at most 128 sectors were read
   pub looks : LooksAtDisk 128 d.disk disk' (store_failed result)
   pub asked : Asked d.hook hook' (hook_failed result)
+  -- where the partition is too short, or a fault is found before, the hook is not asked
+  pub short : sectors < 128 → hook' ≡ d.hook
+  pub unasked : IsTrue d.disk.medium.told → IsSome (head_front d first) → hook' ≡ d.hook
+  -- and a hook that failed hides none
+  pub failed : IsTrue d.disk.medium.told → IfErr result
+      (λ failure. IsTrue (is_hook failure) → (128 ≤ sectors) × (head_front d first ≡ None))
   -- the answer is the head where it is good
   pub head : IsTrue d.disk.medium.told → IsTrue d.hook.told → IfOk result (λ head. head ≡ head_in d first sectors)
   -- of which the signatures are accepted

@@ -8,7 +8,9 @@ use Rattle.board_core.specs.Hook.{HookState}
 use Rattle.key_core.specs.declared.key.PackedKey.{PackedKey}
 use Rattle.chain_core.specs.Tables.{body_table}
 use Rattle.chain_core.specs.declared.fault.BodyFault.{BodyFault}
-use Rattle.kernel_core.specs.Heads.{HeadQuestion, head_fault, head_ok}
+use Rattle.key_core.specs.declared.fault.KeyblockFault.{KeyblockFault}
+use Rattle.kernel_core.specs.KernelTables.{kernel_keyblock_front}
+use Rattle.kernel_core.specs.Heads.{HeadQuestion, asked_of_keyblock, head_fault, head_ok}
 use Rattle.kernel_core.specs.HeadChecks.{head_question}
 use Rattle.kernel_core.specs.KernelBodies.{kernel_body_question}
 use Rattle.kernel_core.specs.declared.rules.KernelRequest.{KernelRequest}
@@ -33,6 +35,10 @@ head_bytes d first = range d.disk.medium.bytes (first * 512) 65536
 
 abbrev pub asked_of_head : WalkQuestion → (first : ℕ) → HeadQuestion
 asked_of_head d first = head_question (head_bytes d first) d.key d.rules d.hook
+
+-- the fault of its keyblock that is found before the hook is asked
+abbrev pub head_front : WalkQuestion → (first : ℕ) → Option KeyblockFault
+head_front d first = kernel_keyblock_front (asked_of_keyblock (asked_of_head d first))
 
 -- A head is good where the partition is not too short for one, and the tables of keyblock and preamble find no fault.
 unfoldable pub has_good_head : WalkQuestion → (first sectors : ℕ) → Bool

@@ -167,7 +167,7 @@ walked_places w room new sized told walked now table there =
     let was = walked.2.0 in
     let is : was ≡ table = ap (λ (o : Option PartitionTable). some_or was o) (sym walked.2.1 ∙ there) in
     let valid = table_valid w.disk.medium was (sized.disk told) walked.2.1 in
-    let d : kernels.Drive = drive_asked Disk walked.0 walked.1 w in
+    let d : kernels.WalkQuestion = drive_asked Disk walked.0 walked.1 w in
     let fates : ℕ → ℕ = fate d was.entries (chosen_in d was.entries) in
     subst (λ (t : PartitionTable). (table' : PartitionTable) × (table_on new ≡ Some table')
     × ((k : ℕ) → k < 128 → (first_in table'.entries k ≡ first_in t.entries k) × (last_in table'.entries k ≡ last_in t.entries k))) is (
@@ -200,7 +200,7 @@ pub record KeepsDrives (old new : World) : Type 0 where
   pub rows : new.hook.rows ≡ old.hook.rows
   pub hook_told : new.hook.told ≡ old.hook.told
 
-kernel_there : (d : kernels.Drive) (disk' : DiskState) (hook' : HookState) (hand : Hand) (bytes : List ℕ) → KeepsPlaces d.disk.medium disk'.medium
+kernel_there : (d : kernels.WalkQuestion) (disk' : DiskState) (hook' : HookState) (hand : Hand) (bytes : List ℕ) → KeepsPlaces d.disk.medium disk'.medium
     → KeepsPartitions d.disk.medium disk'.medium → disk'.medium.told ≡ d.disk.medium.told → hook'.rows ≡ d.hook.rows → hook'.told ≡ d.hook.told
     → HoldsKernel d hand bytes → StandsKernel (drive_now d disk' hook') hand bytes
 kernel_there d disk' hook' hand bytes places partitions told rows hook_told holds =

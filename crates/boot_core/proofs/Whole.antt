@@ -468,7 +468,7 @@ held_of sw old mid found handed (outcome.BadFlash fault) same holds = tt
 
 walked_back : (old mid : World) (room : RoomView) → SameBoards old mid → WalkedOn mid room → WalkedOn old room
 walked_back old mid room same walked =
-    (walked.0, walked.1, subst (λ (d : kernels.Drive). HoldsWalked d room) (drive_same Disk walked.0 walked.1 old mid same) walked.2)
+    (walked.0, walked.1, subst (λ (d : kernels.WalkQuestion). HoldsWalked d room) (drive_same Disk walked.0 walked.1 old mid same) walked.2)
 
 stands_answer : (sw : Switches) (old mid last new : World) (room : Room) (found : Found) (plan : Plan) (to : Targets) (answer : Result Outcome Fault) → HasSizes old → IsTold old
     → ReadsBoard old mid (Ok (Ok found)) → PlansBoot sw found mid last room (Ok plan) → to.area ≡ found.map.nvram.at → (plan.table ≡ true → to.table ≡ room.gpt.table)

@@ -85,7 +85,7 @@ HoldsOutcome sw found w handed other = Unit {0}
 -- ---- what stands of it after the boot
 
 -- The kernel stands in the partition of an entry of the drive's table. The entry may have lost its last try.
-pub record StandsKernel (d : kernels.Drive) (hand : Hand) (bytes : List ℕ) : Type 0 where
+pub record StandsKernel (d : kernels.WalkQuestion) (hand : Hand) (bytes : List ℕ) : Type 0 where
   pub table : PartitionTable
   pub there : table_on d.disk.medium ≡ Some table
   pub stands : IsKernelAt d table.entries (hand.partition - 1) (kernel_in hand) bytes
